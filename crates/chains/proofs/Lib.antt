@@ -1,0 +1,13 @@
+pub mod Counts
+pub mod Steps
+pub mod Listing
+pub mod Added
+pub mod Sets
+pub mod Struck
+pub mod Table
+pub mod Long
+pub mod Parts
+pub mod Rows
+pub mod Charts
+pub mod Held
+pub mod Unique

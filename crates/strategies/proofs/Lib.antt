@@ -1,0 +1,11 @@
+mod Tallies
+mod Counts
+mod Deciding
+mod Table
+mod NameNumbers
+mod SameStrategy
+mod OneMore
+mod SixSigns
+mod Listed
+mod Alike
+mod TextLines

@@ -1,0 +1,8 @@
+pub mod Settings
+pub mod Resolve
+pub mod Rows
+pub mod Names
+pub mod Six
+pub mod Laws
+pub mod Lines
+pub mod Texts
