@@ -11,7 +11,6 @@ use Rattle.std.proofs.shelf.Tests.{cases-eq, eq-eqb, ne-eqb}
 use Rattle.lists.specs.Lists.{keep}
 use Rattle.strategies.specs.Resolve.{same-sign}
 use Rattle.strategies.specs.Rows.{same-mark, counted, row-at, Counts-of}
-use Rattle.strategies.specs.Laws.{Any-rows-count}
 use Rattle.strategies.specs.declared.marks.Sign.{Sign}
 use Rattle.strategies.specs.declared.marks.Sign.the-variants.{Plus, Minus}
 use Rattle.strategies.specs.declared.marks.Mark.{Mark}
@@ -119,5 +118,5 @@ listed-counts rows Default d =
     let b = row-other Default (Signed Minus) d 0 (rows .minus .counts) refl in
     omega arith
 
-pub any-rows-count : Any-rows-count
+pub any-rows-count : (rows : Rows) → (l : List Arrival) × Counts-of rows l
 any-rows-count rows = (listed rows, listed-counts rows)

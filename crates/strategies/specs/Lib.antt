@@ -3,6 +3,5 @@ pub mod Resolve
 pub mod Rows
 pub mod Names
 pub mod Six
-pub mod Laws
 pub mod Lines
 pub mod Texts

@@ -36,6 +36,10 @@ row-at rows Default d = getD (rows .default .counts) d 0
 abbrev pub Counts-of : Rows → List Arrival → Type 0
 Counts-of rows l = (m : Mark) (d : ℕ) → counted m l d ≡ row-at rows m d
 
+-- the rows count these arrivals, each count stopping at 1,000,000,000,000
+abbrev pub Capped-counts-of : Rows → List Arrival → Type 0
+Capped-counts-of rows l = (m : Mark) (d : ℕ) → row-at rows m d ≡ min (counted m l d) 1000000000000
+
 -- what default marks add to a sign
 abbrev pub share : DefaultRule → Sign → ℕ → ℕ
 share Dropped s n = 0

@@ -1,6 +1,9 @@
+//! The sign that a strategy gives on counted marks.
+
 ghost use mathlib.Core.Path.{_≡_};
 ghost use mathlib.Core.List.{List};
-ghost use Prim.Native.Nat.{ℕ, _+_, _<_, _≤_};
+ghost use Prim.Native.Nat.{ℕ, _<_, _≤_};
+ghost use lib.Dec.{ltb};
 ghost use Rattle.std.specs.Options.{Cases as BySome};
 ghost use Rattle.lists.specs.Lists.{sum-below};
 ghost use Rattle.strategies.specs.Resolve.{votes, chosen, tally, single, larger, decided};
@@ -51,14 +54,19 @@ fn total(rows: &Rows, rule: DefaultRule, sign: Sign) -> u64
     sum
 }
 
+// Is a vote of either sign left at the distance?
+fn any_at(rows: &Rows, rule: DefaultRule, distance: usize) -> bool
+    ensures { λ r. ⌜ r ≡ ltb 0 (any-at rule (now (rows .entry)) distance) ⌝ }
+{
+    votes_at(rows, rule, Sign::Plus, distance) + votes_at(rows, rule, Sign::Minus, distance) > 0
+}
+
 // The least distance at which a vote is left.
 fn nearest(rows: &Rows, rule: DefaultRule) -> Option<usize>
     ensures { λ r. ⌜ BySome r ((k : ℕ) → k < 15 → any-at rule (now (rows .entry)) k ≡ 0) (λ d. (0 < any-at rule (now (rows .entry)) d) × ((k : ℕ) → k < d → any-at rule (now (rows .entry)) k ≡ 0)) ⌝ }
 {
     for distance in 0..DISTANCES {
-        if votes_at(rows, rule, Sign::Plus, distance) + votes_at(rows, rule, Sign::Minus, distance)
-            > 0
-        {
+        if any_at(rows, rule, distance) {
             return Some(distance);
         }
     }
@@ -70,9 +78,7 @@ fn farthest(rows: &Rows, rule: DefaultRule) -> Option<usize>
     ensures { λ r. ⌜ BySome r ((k : ℕ) → k < 15 → any-at rule (now (rows .entry)) k ≡ 0) (λ d. (0 < any-at rule (now (rows .entry)) d) × ((k : ℕ) → d < k → k < 15 → any-at rule (now (rows .entry)) k ≡ 0)) ⌝ }
 {
     for distance in (0..DISTANCES).rev() {
-        if votes_at(rows, rule, Sign::Plus, distance) + votes_at(rows, rule, Sign::Minus, distance)
-            > 0
-        {
+        if any_at(rows, rule, distance) {
             return Some(distance);
         }
     }
@@ -149,6 +155,7 @@ fn larger(compared: Tally, rest: Sign) -> Sign
 
 /// The sign that the strategy gives, and the totals once default marks are settled.
 pub fn resolve(rows: &Rows, strategy: Strategy) -> Resolved
+    ensures counted { λ _. ⌜ ((l : List Arrival) × Counts-of (now (rows .entry)) l) ⌝ }
     ensures sign { λ r. ⌜ ((l : List Arrival) → Counts-of (now (rows .entry)) l → r .sign ≡ decided strategy l) ⌝ }
     ensures plus { λ r. ⌜ ((l : List Arrival) → Counts-of (now (rows .entry)) l → r .«plus_total» ≡ tally Plus (votes (strategy .default) l)) ⌝ }
     ensures minus { λ r. ⌜ ((l : List Arrival) → Counts-of (now (rows .entry)) l → r .«minus_total» ≡ tally Minus (votes (strategy .default) l)) ⌝ }
