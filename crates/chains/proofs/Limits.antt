@@ -1,13 +1,13 @@
 -- The tests for the limits, against chains of any length. Assumes nothing.
-use mathlib.Core.Path.{_≡_, refl, sym, _∙_}
-use mathlib.Core.Logic.{_⊎_, inl, inr, _↔_}
-use mathlib.Core.Bool.{Bool, true, false, true≢false}
-use Prim.Native.Nat.{ℕ, zero, suc, _+_, _*_, _<_, _≤_}
+use mathlib.Core.Path.{_≡_, sym}
+use mathlib.Core.Logic.{_⊎_, inl, inr}
+use mathlib.Core.Bool.{true, false}
+use Prim.Native.Nat.{ℕ, zero, suc, _*_, _<_, _≤_}
 use native.Mathlib.Omega.{arith}
 use Rattle.std.proofs.shelf.Tests.{cases-bool}
-use Rattle.chains.specs.Chains.{Members, Chain, Within, Acyclic, Short, Sound, count}
+use Rattle.chains.specs.Chains.{Members, Chain, Within, Acyclic, Short, count}
 use Rattle.chains.specs.Limits.{Leads-exactly, Too-long-exactly, Too-many-exactly, Sound-by-tests}
-use Rattle.chains.specs.Tests.{leads, too-long, too-many}
+use Rattle.chains.specs.Tests.{too-long, too-many}
 use Rattle.chains.proofs.Listing.{counted-is-chain, chain-is-counted}
 use Rattle.chains.proofs.Steps.{chain-cast, chain-end-known, chain-first, chain-front, chain-join}
 use Rattle.chains.proofs.Table.{eight-when-short, few-everywhere, short-by-eight}

@@ -1,10 +1,10 @@
 -- Where the counts stand: within the table, and each at a place of its own. Assumes nothing.
 use mathlib.Core.Path.{_≡_, sym, ap, _∙_}
 use mathlib.Core.List.{List}
-use Prim.Native.Nat.{ℕ, _+_, _-_, _*_, _/_, _%_, _<_, _≤_}
+use Prim.Native.Nat.{ℕ, _+_, _*_, _/_, _%_, _<_, _≤_}
 use native.Mathlib.Omega.{arith}
 use Rattle.std.proofs.shelf.Bits.{mul-le, mul-add-lt, div-mul-add, mod-mul-add}
-use mathlib.Core.Logic.{_⊎_, inl, inr, ⊎-elim}
+use mathlib.Core.Logic.{⊎-elim}
 use native.Mathlib.Nat.{add-mul, one-mul}
 use lib.ListN.{getD}
 use Rattle.std.proofs.shelf.Tests.{cases-lt}
@@ -12,9 +12,6 @@ use Rattle.chains.specs.Table.{entry, place, size}
 
 pub square-le : (m n : ℕ) → m ≤ n → size m ≤ size n
 square-le m n h = omega (arith, mul-le m m n n h h)
-
-pub size-small : (n : ℕ) → n ≤ 64 → size n ≤ 32768
-size-small n h = omega (arith, mul-le n n 64 64 h h)
 
 pub row-below : (n a s : ℕ) → a < n → s < n → a * n + s < n * n
 row-below n a s ha hs = mul-add-lt a n s n ha hs

@@ -1,11 +1,11 @@
 -- What is proved of chain counts. Assumes nothing.
 use mathlib.Core.Path.{_≡_}
 use mathlib.Core.Logic.{_↔_}
-use mathlib.Core.Bool.{Bool, true, false, cond}
+use mathlib.Core.Bool.{true, false, cond}
 use mathlib.Core.List.{List}
-use Prim.Native.Nat.{ℕ, zero, suc, _+_, _-_, _*_, _<_, _≤_}
+use Prim.Native.Nat.{ℕ, suc, _+_, _*_, _<_}
 use Rattle.lists.specs.Lists.{sum-below, Listed, Once}
-use Rattle.chains.specs.Chains.{Members, Within, Same, Chain, accounts, Acyclic, Short, No-chain, Part-of, Sound, Joinable, no-members, add, strike, chains, count, past}
+use Rattle.chains.specs.Chains.{Members, Within, Same, Chain, accounts, Acyclic, No-chain, Part-of, Sound, Joinable, no-members, add, strike, chains, count, past}
 
 -- a chain begins with one membership of its top, and goes on from the member
 abbrev pub Recurrence : Type 0

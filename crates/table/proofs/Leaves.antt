@@ -1,7 +1,7 @@
 -- What the counts of a sound table say of the end of a membership. Assumes nothing.
 use mathlib.Core.Path.{_≡_, sym, ap, _∙_}
 use mathlib.Core.Bool.{true, false}
-use Prim.Native.Nat.{ℕ, _+_, _<_, _≤_}
+use Prim.Native.Nat.{ℕ, _+_, _<_}
 use native.Mathlib.Omega.{arith}
 use Rattle.chains.specs.Chains.{Within, No-chain, strike, count}
 use Rattle.chains.specs.Tests.{too-long, too-many}

@@ -1,7 +1,7 @@
 -- What the counts of a sound table say of the memberships that it shows. Assumes nothing.
 use mathlib.Core.Path.{_≡_, refl, sym, ap, ap₂, _∙_}
 use mathlib.Core.Bool.{Bool, true, false, cond, _&&_}
-use Prim.Native.Nat.{ℕ, zero, suc, _+_, _-_, _*_, _<_, _≤_}
+use Prim.Native.Nat.{ℕ, zero, suc, _+_, _-_, _*_, _<_}
 use denote.Ref.{now}
 use native.Mathlib.Omega.{arith}
 use lib.Dec.{eqb}

@@ -1,18 +1,11 @@
 -- Rows of eight counts in a table, and the chains that go past a membership, as the code reads and sums them. Assumes nothing.
-use mathlib.Core.Path.{_≡_}
 use mathlib.Core.Bool.{cond, _&&_}
 use mathlib.Core.List.{List}
 use Prim.Native.Nat.{ℕ, _+_, _-_, _*_, _<_, _≤_}
 use lib.Dec.{eqb}
 use lib.ListN.{drop, getD, take}
 use Rattle.lists.specs.Lists.{sum-below}
-use Rattle.chains.specs.Table.{entry, size}
-
--- a number of accounts that is the largest up to 64 whose table fits
-pub record Largest (len n : ℕ) : Type 0 where
-  pub few : n ≤ 64
-  pub fits : size n ≤ len
-  pub most : (m : ℕ) → m ≤ 64 → size m ≤ len → m ≤ n
+use Rattle.chains.specs.Table.{entry}
 
 -- the counts without memberships: one chain of length 0 from each account to itself
 abbrev pub alone : ℕ → ℕ → ℕ → ℕ

@@ -2,7 +2,8 @@
 
 ghost use Prim.Native.Nat.{ℕ, _*_, _<_, _≤_};
 ghost use Rattle.chains.specs.Table.{Holds, entry, size};
-ghost use Rattle.table.specs.Rows.{Largest, alone};
+ghost use Rattle.table.specs.Rows.{alone};
+ghost use Rattle.table.specs.Tables.{Largest};
 ghost use lib.ListN.{getD};
 ghost use mathlib.Core.Path.{_≡_};
 

@@ -1,6 +1,6 @@
 use mathlib.Core.Path.{refl, ap, sym, subst}
 use mathlib.Core.List.{List}
-use Prim.Native.Nat.{ℕ, _+_, _<_}
+use Prim.Native.Nat.{ℕ, _+_}
 use native.Mathlib.Omega.{arith}
 use Rattle.chains.specs.Table.{entry}
 use Rattle.table.proofs.Lines.{Upto, later, up-is, still-low, line-allowed, line-done, line-skipped}

@@ -3,7 +3,6 @@ use borrow.Author.Needs.{needs}
 use mathlib.Core.Logic.{⊎-elim}
 use Prim.Native.Nat.{_+_, _<_, _≤_}
 use Rattle.std.proofs.shelf.Tests.{cases-lt}
-use Rattle.chains.specs.Table.{size}
 use Rattle.chains.proofs.Places.{square-le}
 use Rattle.table.proofs.making.largest.Needs as need
 

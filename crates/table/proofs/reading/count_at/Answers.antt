@@ -1,5 +1,5 @@
 use native.Mathlib.Omega.{arith}
-use Rattle.chains.proofs.Places.{place-below, size-small}
+use Rattle.chains.proofs.Places.{place-below}
 use Rattle.table.proofs.reading.count_at.Needs as need
 
 pub index-counts-a : need.index-counts-a

@@ -1,5 +1,5 @@
 use borrow.Author.Count.{below-more}
-use mathlib.Core.Path.{_≡_, refl}
+use mathlib.Core.Path.{refl}
 use native.Mathlib.Omega.{arith}
 use Prim.Native.Nat.{_<_}
 use Rattle.std.proofs.shelf.Tests.{true≢false}

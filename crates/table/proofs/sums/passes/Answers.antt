@@ -1,6 +1,5 @@
 use borrow.Author.Count.{below-more}
 use mathlib.Core.Path.{refl}
-use Prim.Native.Nat.{_<_}
 use native.Mathlib.Omega.{arith}
 use Rattle.std.proofs.shelf.Tests.{true≢false}
 use Rattle.chains.specs.Table.{entry}

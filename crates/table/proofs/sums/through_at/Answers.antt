@@ -1,6 +1,6 @@
-use mathlib.Core.Path.{_≡_, ap, sym, _∙_}
+use mathlib.Core.Path.{_≡_, ap, _∙_}
 use native.Mathlib.Omega.{arith}
-use Prim.Native.Nat.{ℕ, _+_, _-_, _*_, _≤_}
+use Prim.Native.Nat.{_-_, _*_, _≤_}
 use Rattle.std.proofs.shelf.Bits.{mul-le}
 use Rattle.table.specs.Rows.{at-of, through}
 use Rattle.lists.specs.Lists.{sum-below}

@@ -17,8 +17,8 @@ change-all-requires c κs =
     let p = c .args .p in let m = c .args .c in
     record {
       table = search needs;
-      group = c .pre .group;
-      member = c .pre .member;
+      group = search needs;
+      member = search needs;
       low = is-low t sound;
       no-circle = free-counts t sound m p (c .pre .member) (c .pre .group) (free-chain t sound m p (c .pre .free));
       allowed = λ a s k ha hs hk.

@@ -1,7 +1,5 @@
 use borrow.Author.Needs.{needs}
-use mathlib.Core.Path.{refl, sym, _∙_}
-use native.Mathlib.Omega.{arith}
-use mathlib.Core.Bool.{true≢false}
+use mathlib.Core.Path.{_∙_}
 use Rattle.chains.specs.Chains.{no-members}
 use Rattle.chains.proofs.Held.{empty-sound}
 use Rattle.chains.proofs.Limits.{short-passes}

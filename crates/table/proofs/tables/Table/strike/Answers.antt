@@ -1,5 +1,5 @@
 use borrow.Author.Needs.{needs}
-use mathlib.Core.Path.{refl, _∙_}
+use mathlib.Core.Path.{refl}
 use native.Mathlib.Omega.{arith}
 use Rattle.chains.specs.Chains.{strike}
 use Rattle.table.specs.Tables.{members-in}
@@ -15,8 +15,8 @@ change-all-requires c κs =
     let p = c .args .p in let m = c .args .c in
     record {
       table = search needs;
-      group = c .pre .group;
-      member = c .pre .member;
+      group = search needs;
+      member = search needs;
       low = is-low t sound;
       no-circle = free-counts t sound m p (c .pre .member) (c .pre .group) (back-free t sound p m (c .pre .group) (c .pre .member) (c .pre .stands));
       allowed = λ a s k ha hs hk.

@@ -7,8 +7,8 @@ pub is-too-long-requires : need.is-too-long-requires
 is-too-long-requires c κs =
     record {
       table = search needs;
-      group = c .pre .group;
-      member = c .pre .member;
+      group = search needs;
+      member = search needs;
       own = own (c .args .self .now) (c .pre .sound);
     }
 

@@ -7,8 +7,8 @@ pub passes-requires : need.passes-requires
 passes-requires c κs =
     record {
       table = search needs;
-      group = c .pre .group;
-      member = c .pre .member;
+      group = search needs;
+      member = search needs;
       low = is-low (c .args .self .now) (c .pre .sound);
     }
 
