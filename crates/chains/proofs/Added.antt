@@ -1,8 +1,7 @@
 -- The counts after a membership is added. Assumes nothing.
 use mathlib.Core.Path.{_≡_, refl, sym, ap, ap₂, _∙_}
-use mathlib.Core.Logic.{_⊎_, inl, inr}
 use mathlib.Core.Bool.{Bool, true, false, cond, _||_, _&&_, true≢false}
-use mathlib.Core.List.{List, [], _∷_}
+use mathlib.Core.List.{[], _∷_}
 use Prim.Native.Nat.{ℕ, zero, suc, _+_, _-_, _*_, _<_}
 use native.Mathlib.Nat.{zero-mul, mul-zero, suc-sub-suc, sub-zero}
 use native.Mathlib.Omega.{arith}
@@ -10,7 +9,7 @@ use lib.Dec.{eqb}
 use lib.ListN.{length}
 use Rattle.std.proofs.shelf.Tests.{eq-eqb, ne-eqb, and-parts, and-right, eqb-true, cond-false}
 use Rattle.lists.specs.Lists.{sum-below}
-use Rattle.chains.specs.Chains.{Members, Chain, No-chain, add, is-pair, chains, count, past}
+use Rattle.chains.specs.Chains.{Members, No-chain, add, is-pair, chains, count, past}
 use Rattle.lists.proofs.Sums.{sum-same, sum-zero, sum-add, sum-times, sum-swap, sum-first, sum-one}
 use Rattle.chains.proofs.Counts.{recurrence}
 use Rattle.chains.proofs.Listing.{count-none}

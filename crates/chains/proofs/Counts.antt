@@ -1,12 +1,12 @@
 -- The count of chains follows the first step. Assumes nothing.
-use mathlib.Core.Path.{_≡_, refl, sym, ap, _∙_}
+use mathlib.Core.Path.{_≡_, refl}
 use mathlib.Core.Bool.{Bool, true, false, cond}
-use mathlib.Core.List.{List, [], _∷_, _++_, map}
-use Prim.Native.Nat.{ℕ, zero, suc, _+_, _<_}
+use mathlib.Core.List.{List, [], _∷_, _++_}
+use Prim.Native.Nat.{ℕ, zero, suc, _+_}
 use native.Mathlib.Omega.{arith}
 use lib.ListN.{length, length-append, length-map}
 use Rattle.lists.specs.Lists.{sum-below, below, keep, join-all}
-use Rattle.chains.specs.Chains.{Members, chains, count}
+use Rattle.chains.specs.Chains.{chains, count}
 use Rattle.chains.specs.Laws.{Recurrence}
 
 -- one more element at the end of what is kept and joined

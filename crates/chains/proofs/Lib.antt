@@ -11,3 +11,9 @@ pub mod Rows
 pub mod Charts
 pub mod Held
 pub mod Unique
+pub mod Some
+pub mod Told
+pub mod Limits
+pub mod Places
+pub mod Laid
+pub mod Shows

@@ -1,10 +1,9 @@
 -- Fewer memberships, fewer chains. Assumes nothing.
-use mathlib.Core.Path.{_≡_, refl, sym, ap, _∙_}
+use mathlib.Core.Path.{_≡_, refl}
 use mathlib.Core.Bool.{Bool, true, false, cond, false≢true}
-use Prim.Native.Nat.{ℕ, zero, suc, _+_, _<_, _≤_}
+use Prim.Native.Nat.{ℕ, zero, suc, _≤_}
 use native.Mathlib.Omega.{arith}
-use Rattle.lists.specs.Lists.{sum-below}
-use Rattle.chains.specs.Chains.{Members, Chain, Short, Part-of, count}
+use Rattle.chains.specs.Chains.{Members, Short, Part-of, count}
 use Rattle.lists.proofs.Sums.{sum-le}
 use Rattle.chains.proofs.Counts.{recurrence}
 use Rattle.chains.proofs.Steps.{chain-more}

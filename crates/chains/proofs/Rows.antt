@@ -1,12 +1,12 @@
 -- Counts row by row: a chain cut anywhere, and its last step. Assumes nothing.
-use mathlib.Core.Path.{_≡_, refl, sym, ap, ap₂, _∙_}
+use mathlib.Core.Path.{_≡_, sym, ap, _∙_}
 use mathlib.Core.Bool.{Bool, true, false, cond}
-use Prim.Native.Nat.{ℕ, zero, suc, _+_, _*_, _<_, _≤_}
+use Prim.Native.Nat.{ℕ, zero, suc, _+_, _*_, _<_}
 use native.Mathlib.Nat.{zero-add, suc-add, mul-zero, mul-one, zero-mul}
 use native.Mathlib.Numerals.{add-one}
 use native.Mathlib.Omega.{arith}
 use lib.Dec.{eqb}
-use Rattle.std.proofs.shelf.Tests.{ne-eqb, eq-eqb, cond-false}
+use Rattle.std.proofs.shelf.Tests.{ne-eqb, cond-false}
 use Rattle.lists.specs.Lists.{sum-below}
 use Rattle.chains.specs.Chains.{Members, count}
 use Rattle.lists.proofs.Sums.{sum-same, sum-one, sum-swap, sum-times}

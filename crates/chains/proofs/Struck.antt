@@ -1,9 +1,8 @@
 -- The counts after a membership is struck out. Assumes nothing.
-use mathlib.Core.Path.{_≡_, refl, sym, ap, ap₂, _∙_}
-use mathlib.Core.Bool.{Bool, true, false}
+use mathlib.Core.Path.{_≡_, sym, ap, ap₂, _∙_}
+use mathlib.Core.Bool.{true}
 use Prim.Native.Nat.{ℕ, suc, _+_, _-_, _*_, _<_}
-use native.Mathlib.Omega.{arith}
-use Rattle.chains.specs.Chains.{Members, No-chain, Same, add, strike, count, past}
+use Rattle.chains.specs.Chains.{Members, No-chain, add, strike, count, past}
 use Rattle.lists.proofs.Sums.{sum-same}
 use Rattle.chains.proofs.Steps.{chain-more}
 use Rattle.chains.proofs.Sets.{same-counts, add-strike, strike-gone, strike-part}

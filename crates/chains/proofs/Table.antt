@@ -1,12 +1,11 @@
 -- What a table of counts tells. Assumes nothing.
-use mathlib.Core.Path.{_≡_, refl, sym, ap, _∙_}
+use mathlib.Core.Path.{_≡_, refl, ap, _∙_}
 use mathlib.Core.Logic.{_⊎_, inl, inr}
 use mathlib.Core.Bool.{Bool, true, false, cond}
-use Prim.Native.Nat.{ℕ, zero, suc, _+_, _<_, _≤_}
+use Prim.Native.Nat.{ℕ, zero, suc, _<_, _≤_}
 use native.Mathlib.Omega.{arith}
 use lib.Dec.{eqb}
 use Rattle.std.proofs.shelf.Tests.{eq-eqb, ne-eqb, cond-false, cases-lt}
-use Rattle.lists.specs.Lists.{sum-below}
 use Rattle.chains.specs.Chains.{Members, Chain, Within, Short, No-chain, no-members, count}
 use Rattle.lists.proofs.Sums.{sum-one, sum-zero}
 use Rattle.chains.proofs.Counts.{recurrence}

@@ -1,11 +1,11 @@
 -- What is proved of chain counts. Assumes nothing.
 use mathlib.Core.Path.{_≡_}
 use mathlib.Core.Logic.{_↔_}
-use mathlib.Core.Bool.{Bool, true, false, cond}
+use mathlib.Core.Bool.{true, false, cond}
 use mathlib.Core.List.{List}
-use Prim.Native.Nat.{ℕ, zero, suc, _+_, _-_, _*_, _<_, _≤_}
+use Prim.Native.Nat.{ℕ, suc, _+_, _*_, _<_}
 use Rattle.lists.specs.Lists.{sum-below, Listed, Once}
-use Rattle.chains.specs.Chains.{Members, Within, Same, Chain, accounts, Acyclic, Short, No-chain, Part-of, Sound, Joinable, no-members, add, strike, chains, count, past}
+use Rattle.chains.specs.Chains.{Members, Within, Same, Chain, accounts, Acyclic, No-chain, Part-of, Sound, Joinable, no-members, add, strike, chains, count, past}
 
 -- a chain begins with one membership of its top, and goes on from the member
 abbrev pub Recurrence : Type 0
@@ -65,17 +65,6 @@ Same-set-same-counts = (n : ℕ) (E F : Members) → Same E F → (a s k : ℕ) 
 abbrev pub Struck-again : Type 0
 Struck-again = (E : Members) (p c : ℕ) → (E p c ≡ false → Same (strike (add E p c) p c) E) × (E p c ≡ true → Same (add (strike E p c) p c) E)
 
--- chains down to p and from c that would make one of more than 7 memberships
-abbrev pub Long-past : ℕ → Members → ℕ → ℕ → Type 0
-Long-past n E p c =
-    (a : ℕ) × (s : ℕ) × (i : ℕ) × (j : ℕ) × (a < n) × (s < n) × (i < 8) × (j < 8) × (8 ≤ i + j + 1)
-    × (0 < count n E a p i) × (0 < count n E c s j)
-
-abbrev pub Too-long : Type 0
-Too-long =
-    (n : ℕ) (E : Members) → Within n E → Short E → (p c : ℕ) → p < n → c < n → No-chain E c p →
-    ((a : ℕ) × (s : ℕ) × (k : ℕ) × (8 ≤ k) × Chain (add E p c) a k s) ↔ Long-past n E p c
-
 -- whatever is accepted, the set stays one that a book can hold
 abbrev pub Stays-sound : Type 0
 Stays-sound =
@@ -99,13 +88,3 @@ abbrev pub Recurrence-last : Type 0
 Recurrence-last =
     (n : ℕ) (E : Members) (a s k : ℕ) → a < n → s < n →
     count n E a s (suc k) ≡ sum-below n (λ m. cond (E m s) (count n E a m k) 0)
-
--- whether any chain is longer than 7 is told by the chains of length 8
-abbrev pub Short-by-eight : Type 0
-Short-by-eight = (n : ℕ) (E : Members) → Within n E → Short E ↔ ((a s : ℕ) → a < n → s < n → count n E a s 8 ≡ 0)
-
--- whether any count passes a bound is told by the accounts below n and the lengths below 8
-abbrev pub Few-by-table : Type 0
-Few-by-table =
-    (n : ℕ) (E : Members) → Within n E → Short E → (b : ℕ) → 1 ≤ b →
-    ((a s k : ℕ) → a < n → s < n → k < 8 → count n E a s k ≤ b) → (a s k : ℕ) → count n E a s k ≤ b

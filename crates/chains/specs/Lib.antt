@@ -1,3 +1,5 @@
 pub mod Chains
+pub mod Tests
 pub mod Table
 pub mod Laws
+pub mod Limits
