@@ -1,0 +1,14 @@
+//! Plans of items: which items are known, in which containers each lies, and the item chains that they form.
+
+mod channels;
+mod equipment;
+mod place;
+mod plan;
+mod refusal;
+
+pub use channels::Channels;
+pub use channels::ChannelsPlan;
+pub use equipment::Equipment;
+pub use equipment::EquipmentPlan;
+pub use plan::Plan;
+pub use refusal::EquipmentRefusal;
