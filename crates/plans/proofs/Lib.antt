@@ -9,3 +9,9 @@ pub mod ItemChains
 pub mod Sound
 pub mod Filled
 pub mod Added
+pub mod FirstStep
+pub mod Entries
+pub mod Longer
+pub mod PassUp
+pub mod First
+pub mod Counted

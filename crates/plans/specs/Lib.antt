@@ -5,3 +5,6 @@ pub mod Refusals
 pub mod Equipment
 pub mod Filling
 pub mod Table
+pub mod Counts
+pub mod Above
+pub mod Laws
