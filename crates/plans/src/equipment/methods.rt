@@ -11,6 +11,12 @@ use crate::place::Place;
 use crate::plan::Plan;
 use crate::refusal::EquipmentRefusal;
 
+// How many places the table has.
+const PLACES: u32 = 256;
+
+// The most containers that a run has.
+const HIGHEST: u32 = 7;
+
 pub impl Plan for Equipment as EquipmentPlan {
     ghost meaning = { table };
 
@@ -47,11 +53,10 @@ pub impl Plan for Equipment as EquipmentPlan {
     }
 
     fn height(&self, item: u32) -> u32 {
-        if item < self.filled {
-            self.places[item as usize].height
-        } else {
-            0
+        if item >= self.filled {
+            return 0;
         }
+        self.places[item as usize].height
     }
 }
 
@@ -113,14 +118,14 @@ impl Equipment {
         ensures after { λ _. ⌜ table (now (self .exit)) ≡ add-after (table (now (self .entry))) item first second ⌝ }
         ensures same { λ r. ⌜ refused r (λ _. now (self .exit) ≡ now (self .entry)) ⌝ }
     {
-        if item != self.filled || item == 256 {
+        if item != self.filled || item == PLACES {
             return Err(EquipmentRefusal::NotNext);
         }
         if self.lacks(first) || self.lacks(second) || same(first, second) {
             return Err(EquipmentRefusal::BadContainer);
         }
         let height = self.height_in(first).max(self.height_in(second));
-        if height > 7 {
+        if height > HIGHEST {
             return Err(EquipmentRefusal::TooHigh);
         }
         self.places[item as usize] = Place {

@@ -47,8 +47,8 @@ returns-then-lacks c =
     ]) in
     record { answer = answered; after = same-behind (table e) (c .args .item) (both (c .args .first) (c .args .second)) _ _ answered; same = refl }
 
-pub returns-then-height-gt7 : need.returns-then-height-gt7
-returns-then-height-gt7 c =
+pub returns-then-height-gt-HIGHEST : need.returns-then-height-gt-HIGHEST
+returns-then-height-gt-HIGHEST c =
     let e = c .args .self .now in
     let M = table e in
     let within = e .within in
