@@ -1,0 +1,10 @@
+pub mod Items
+pub mod Runs
+pub mod Channels
+pub mod Refusals
+pub mod Equipment
+pub mod Filling
+pub mod Table
+pub mod Counts
+pub mod Above
+pub mod Laws

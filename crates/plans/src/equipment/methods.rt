@@ -1,0 +1,149 @@
+ghost use mathlib.Core.Path.{_≡_};
+ghost use Prim.Native.Nat.{ℕ};
+ghost use lib.Dec.{ltb};
+ghost use Rattle.std.specs.Vec.{listOf, refused};
+ghost use Rattle.plans.specs.Items.{tallest, height-of};
+ghost use Rattle.plans.specs.Equipment.{twice};
+ghost use Rattle.plans.specs.Filling.{no-items, next-number, some-unknown, add-answer, add-after};
+ghost use Rattle.plans.specs.Table.{table};
+use crate::equipment::Equipment;
+use crate::place::Place;
+use crate::plan::Plan;
+use crate::refusal::EquipmentRefusal;
+
+// How many places the table has.
+const PLACES: u32 = 256;
+
+// The most containers that a run has.
+const HIGHEST: u32 = 7;
+
+pub impl Plan for Equipment as EquipmentPlan {
+    ghost meaning = { table };
+
+    fn known(&self, item: u32) -> bool {
+        item < self.filled
+    }
+
+    fn containers(&self, item: u32) -> usize {
+        if item >= self.filled {
+            return 0;
+        }
+        let place = self.places[item as usize];
+        let mut count = 0;
+        if place.first.is_some() {
+            count += 1;
+        }
+        if place.second.is_some() {
+            count += 1;
+        }
+        count
+    }
+
+    fn container(&self, item: u32, k: usize) -> Option<u32> {
+        if item >= self.filled {
+            return None;
+        }
+        let place = self.places[item as usize];
+        match (place.first, k) {
+            (Some(first), 0) => Some(first),
+            (Some(_), 1) => place.second,
+            (None, 0) => place.second,
+            _ => None,
+        }
+    }
+
+    fn height(&self, item: u32) -> u32 {
+        if item >= self.filled {
+            return 0;
+        }
+        self.places[item as usize].height
+    }
+}
+
+impl Equipment {
+    /// A table that knows nothing.
+    pub fn new() -> Equipment
+        ensures made { λ r. ⌜ table r ≡ no-items ⌝ }
+    {
+        let blank = Place {
+            first: None,
+            second: None,
+            height: 0,
+        };
+        Equipment {
+            places: [blank; 256],
+            filled: 0,
+        }
+    }
+
+    /// The number that the next item must have: how many are known. Exactly the items below it are known.
+    pub fn next(&self) -> u32
+        ensures answer { λ r. ⌜ r ≡ next-number (table (now (self .entry))) ⌝ }
+        ensures below { λ r. ⌜ ((item : ℕ) → table (now (self .entry)) .known item ≡ ltb item r) ⌝ }
+    {
+        self.filled
+    }
+
+    // Is this container, where there is one, not known?
+    fn lacks(&self, container: Option<u32>) -> bool
+        ensures answer { λ r. ⌜ r ≡ some-unknown (table (now (self .entry))) (listOf container) ⌝ }
+    {
+        match container {
+            Some(c) => !self.known(c),
+            None => false,
+        }
+    }
+
+    // The height of an item that lies in this container alone.
+    fn height_in(&self, container: Option<u32>) -> u32
+        ensures answer { λ r. ⌜ r ≡ tallest (height-of (table (now (self .entry)))) (listOf container) ⌝ }
+    {
+        match container {
+            Some(c) => self.height(c) + 1,
+            None => 0,
+        }
+    }
+
+    /// Adds the next item, with the containers that it lies in. A second container behind a missing first is its only one.
+    ///
+    /// Refused, in this order, where the item is not the next number or is 256, where a container is not known or both are equal, and where the item's
+    /// height would be 8. A refusal changes nothing.
+    pub fn add(
+        &mut self,
+        item: u32,
+        first: Option<u32>,
+        second: Option<u32>,
+    ) -> Result<(), EquipmentRefusal>
+        ensures answer { λ r. ⌜ r ≡ add-answer (table (now (self .entry))) item first second ⌝ }
+        ensures after { λ _. ⌜ table (now (self .exit)) ≡ add-after (table (now (self .entry))) item first second ⌝ }
+        ensures same { λ r. ⌜ refused r (λ _. now (self .exit) ≡ now (self .entry)) ⌝ }
+    {
+        if item != self.filled || item == PLACES {
+            return Err(EquipmentRefusal::NotNext);
+        }
+        if self.lacks(first) || self.lacks(second) || same(first, second) {
+            return Err(EquipmentRefusal::BadContainer);
+        }
+        let height = self.height_in(first).max(self.height_in(second));
+        if height > HIGHEST {
+            return Err(EquipmentRefusal::TooHigh);
+        }
+        self.places[item as usize] = Place {
+            first,
+            second,
+            height,
+        };
+        self.filled += 1;
+        Ok(())
+    }
+}
+
+// Are both containers there, and equal?
+fn same(first: Option<u32>, second: Option<u32>) -> bool
+    ensures answer { λ r. ⌜ r ≡ twice first second ⌝ }
+{
+    match (first, second) {
+        (Some(a), Some(b)) => a == b,
+        _ => false,
+    }
+}
