@@ -1,0 +1,71 @@
+// What the walk finds for each kind of weight.
+ghost use mathlib.Core.Path.{_≡_};
+ghost use Prim.Native.Nat.{ℕ, _+_, _<_, _≤_};
+ghost use lib.ListN.{getD};
+ghost use Rattle.chains.specs.Chains.{Chain, Short};
+ghost use Rattle.chains.specs.Table.{Holds, shown-members};
+ghost use Rattle.strategies.specs.Rows.{row-at};
+ghost use Rattle.strategies.specs.declared.marks.Mark.{Mark};
+ghost use Rattle.walk.specs.Meaning.{Nearest, arrived};
+ghost use Rattle.walk.specs.Least.{none};
+ghost use Rattle.walk.specs.Counts.{no-counts, no-rows, count-at, limited};
+use crate::least::Least;
+use crate::least_weight::LeastWeight;
+use crate::row_weight::RowWeight;
+use crate::rows_weight::RowsWeight;
+use crate::walking::MOST_ACCOUNTS;
+use crate::walking::walk;
+use strategies::rows::Row;
+use strategies::rows::Rows;
+
+/// The least distance at which anything arrives at `s`, or none, where each account starts with a distance of its own or none.
+///
+/// Needs the chain counts of at most 64 accounts, and a known `s`. Alters nothing.
+pub fn least_distance(
+    counts: &[u32],
+    accounts: usize,
+    start: &[Least; MOST_ACCOUNTS],
+    s: usize,
+) -> Least
+    requires holds { ⌜ Holds accounts (now counts) ⌝ }
+    requires known { ⌜ s < accounts ⌝ }
+    ensures answer { λ r. ⌜ Nearest (shown-members accounts (now (counts .entry))) (λ a. getD (now (start .entry)) a none .distance) s (r .distance) ⌝ }
+    ensures every { λ r. ⌜ (Short (shown-members accounts (now (counts .entry))) → (a k : ℕ) → Chain (shown-members accounts (now (counts .entry))) a k s → r .distance ≤ getD (now (start .entry)) a none .distance + k) ⌝ }
+{
+    walk(counts, accounts, start, s)
+}
+
+/// How many arrive at `s` at each distance, up to a million million, where each account starts with a row of its own.
+///
+/// Needs the chain counts of at most 64 accounts, and a known `s`. Alters nothing.
+pub fn row_of_arrivals(
+    counts: &[u32],
+    accounts: usize,
+    start: &[Row; MOST_ACCOUNTS],
+    s: usize,
+) -> Row
+    requires holds { ⌜ Holds accounts (now counts) ⌝ }
+    requires known { ⌜ s < accounts ⌝ }
+    ensures answer { λ r. ⌜ ((d : ℕ) → d < 15 → count-at r d ≡ limited (arrived accounts (shown-members accounts (now (counts .entry))) (λ a. count-at (getD (now (start .entry)) a no-counts)) s 8 d)) ⌝ }
+    ensures every { λ r. ⌜ (Short (shown-members accounts (now (counts .entry))) → (many : ℕ) → 8 ≤ many → (d : ℕ) → d < 15 → count-at r d ≡ limited (arrived accounts (shown-members accounts (now (counts .entry))) (λ a. count-at (getD (now (start .entry)) a no-counts)) s many d)) ⌝ }
+{
+    walk(counts, accounts, start, s)
+}
+
+/// How many of each mark arrive at `s` at each distance, up to a million million, where each account starts with rows of its own.
+///
+/// Needs the chain counts of at most 64 accounts, and a known `s`. Alters nothing.
+pub fn rows_of_arrivals(
+    counts: &[u32],
+    accounts: usize,
+    start: &[Rows; MOST_ACCOUNTS],
+    s: usize,
+) -> Rows
+    requires holds { ⌜ Holds accounts (now counts) ⌝ }
+    requires known { ⌜ s < accounts ⌝ }
+    ensures answer { λ r. ⌜ ((m : Mark) (d : ℕ) → d < 15 → row-at r m d ≡ limited (arrived accounts (shown-members accounts (now (counts .entry))) (λ a. row-at (getD (now (start .entry)) a no-rows) m) s 8 d)) ⌝ }
+    ensures exact { λ r. ⌜ ((m : Mark) (d : ℕ) → d < 15 → arrived accounts (shown-members accounts (now (counts .entry))) (λ a. row-at (getD (now (start .entry)) a no-rows) m) s 8 d ≤ 1000000000000 → row-at r m d ≡ arrived accounts (shown-members accounts (now (counts .entry))) (λ a. row-at (getD (now (start .entry)) a no-rows) m) s 8 d) ⌝ }
+    ensures every { λ r. ⌜ (Short (shown-members accounts (now (counts .entry))) → (many : ℕ) → 8 ≤ many → (m : Mark) (d : ℕ) → d < 15 → row-at r m d ≡ limited (arrived accounts (shown-members accounts (now (counts .entry))) (λ a. row-at (getD (now (start .entry)) a no-rows) m) s many d)) ⌝ }
+{
+    walk(counts, accounts, start, s)
+}
