@@ -32,7 +32,7 @@ pub fn least_distance(
     ensures answer { λ r. ⌜ Nearest (shown-members accounts (now (counts .entry))) (λ a. getD (now (start .entry)) a none .distance) s (r .distance) ⌝ }
     ensures every { λ r. ⌜ (Short (shown-members accounts (now (counts .entry))) → (a k : ℕ) → Chain (shown-members accounts (now (counts .entry))) a k s → r .distance ≤ getD (now (start .entry)) a none .distance + k) ⌝ }
 {
-    walk(counts, accounts, start, s)
+    walk::<LeastWeight>(counts, accounts, start, s)
 }
 
 /// How many arrive at `s` at each distance, up to a million million, where each account starts with a row of its own.
@@ -49,7 +49,7 @@ pub fn row_of_arrivals(
     ensures answer { λ r. ⌜ ((d : ℕ) → d < 15 → count-at r d ≡ limited (arrived accounts (shown-members accounts (now (counts .entry))) (λ a. count-at (getD (now (start .entry)) a no-counts)) s 8 d)) ⌝ }
     ensures every { λ r. ⌜ (Short (shown-members accounts (now (counts .entry))) → (many : ℕ) → 8 ≤ many → (d : ℕ) → d < 15 → count-at r d ≡ limited (arrived accounts (shown-members accounts (now (counts .entry))) (λ a. count-at (getD (now (start .entry)) a no-counts)) s many d)) ⌝ }
 {
-    walk(counts, accounts, start, s)
+    walk::<RowWeight>(counts, accounts, start, s)
 }
 
 /// How many of each mark arrive at `s` at each distance, up to a million million, where each account starts with rows of its own.
@@ -67,5 +67,5 @@ pub fn rows_of_arrivals(
     ensures exact { λ r. ⌜ ((m : Mark) (d : ℕ) → d < 15 → arrived accounts (shown-members accounts (now (counts .entry))) (λ a. row-at (getD (now (start .entry)) a no-rows) m) s 8 d ≤ 1000000000000 → row-at r m d ≡ arrived accounts (shown-members accounts (now (counts .entry))) (λ a. row-at (getD (now (start .entry)) a no-rows) m) s 8 d) ⌝ }
     ensures every { λ r. ⌜ (Short (shown-members accounts (now (counts .entry))) → (many : ℕ) → 8 ≤ many → (m : Mark) (d : ℕ) → d < 15 → row-at r m d ≡ limited (arrived accounts (shown-members accounts (now (counts .entry))) (λ a. row-at (getD (now (start .entry)) a no-rows) m) s many d)) ⌝ }
 {
-    walk(counts, accounts, start, s)
+    walk::<RowsWeight>(counts, accounts, start, s)
 }

@@ -12,8 +12,11 @@ use crate::weight::Weight;
 /// The most accounts that there can be.
 pub const MOST_ACCOUNTS: usize = 64;
 
-/// The most memberships that a chain can have.
+// The most memberships that a chain can have.
 const LONGEST: usize = 7;
+
+// Counts are kept for chains of 0 to 7 memberships.
+const LENGTHS: usize = 8;
 
 // Whether the counts show the member in the group: a chain of length 1 leads from one to the other.
 fn has(counts: &[u32], accounts: usize, group: usize, member: usize) -> bool
@@ -21,7 +24,7 @@ fn has(counts: &[u32], accounts: usize, group: usize, member: usize) -> bool
     requires known { ⌜ group < accounts ⌝ ∗ ⌜ member < accounts ⌝ }
     ensures { λ r. ⌜ r ≡ shown-members accounts (now (counts .entry)) group member ⌝ }
 {
-    counts[(group * accounts + member) * 8 + 1] > 0
+    counts[(group * accounts + member) * LENGTHS + 1] > 0
 }
 
 // Adds the weight to each member of the group.
