@@ -7,13 +7,13 @@ use native.Mathlib.Omega.{arith}
 use Rattle.std.proofs.shelf.Tests.{cases-lt}
 use Rattle.lists.specs.Lists.{below, join-all}
 use Rattle.chains.specs.Chains.{Members, Within, Chain, chains, count}
-use Rattle.chains.proofs.Listing.{counted-is-chain, chain-is-counted}
+use Rattle.chains.proofs.Listing.{below-has, below-bound, counted-is-chain, chain-is-counted}
 use Rattle.chains.proofs.Steps.{chain-top-known}
 use Rattle.walk.specs.Weights.{total, times, arriving, arrivals}
 use Rattle.walk.specs.Least.{none, lesser, further}
 use Rattle.walk.specs.Meaning.{Nearest}
 use Rattle.walk.specs.declared.least.Least.{Least}
-use Rattle.walk.proofs.Listed.{join-in, join-out, each-in, each-out, below-in, below-out}
+use Rattle.walk.proofs.Listed.{join-in, join-out, each-in, each-out}
 
 total-le : (ws : List Least) {w : Least} → List·Memᴰ w ws → total none lesser ws .distance ≤ w .distance
 total-le [] m = absurd (List·Memᴰ·not-nil m)
@@ -36,8 +36,8 @@ module _ (n : ℕ) (E : Members) (w : Within n E) (start : ℕ → Least) (s : �
   listed : (a k : ℕ) → k ≤ 7 → Chain E a k s → List·Memᴰ (times further k (start a)) (arrivals further n E start s 8)
   unfolding arrivals count
   listed a k short c =
-      join-in (arriving further n E start s) (below 8) (below-in k 8 (omega arith))
-      (join-in (λ b. map (λ path. times further k (start b)) (chains n E b s k)) (below n) (below-in a n (chain-top-known w known c))
+      join-in (arriving further n E start s) (below 8) (below-has 8 k (omega arith))
+      (join-in (λ b. map (λ path. times further k (start b)) (chains n E b s k)) (below n) (below-has n a (chain-top-known w known c))
       (each-in (times further k (start a)) (chains n E a s k) (chain-is-counted n E w c)))
 
   from-list : {x : Least} → List·Memᴰ x (arrivals further n E start s 8) → (a : ℕ) × (k : ℕ) × (k ≤ 7) × Chain E a k s × (x ≡ times further k (start a))
@@ -47,7 +47,7 @@ module _ (n : ℕ) (E : Members) (w : Within n E) (start : ℕ → Least) (s : �
       let k = long .0 in
       let top = join-out (λ b. map (λ path. times further k (start b)) (chains n E b s k)) (below n) (long .2) in
       let last = each-out (times further k (start (top .0))) (chains n E (top .0) s k) (top .2) in
-      let short : k < 8 = below-out 8 (long .1) in
+      let short : k < 8 = below-bound 8 k (long .1) in
       (top .0, k, omega arith, counted-is-chain n E (top .0) s k (last .0), last .1)
 
   pub nearest : Nearest E (λ a. start a .distance) s (total none lesser (arrivals further n E start s 8) .distance)

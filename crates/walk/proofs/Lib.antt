@@ -1,6 +1,8 @@
 pub mod Totals
 pub mod Levels
 pub mod AllChains
+pub mod AnyOrder
+pub mod EveryChain
 pub mod Listed
 pub mod Shown
 pub mod Distances

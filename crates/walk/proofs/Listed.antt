@@ -1,12 +1,12 @@
 -- What stands in a list that is joined of others. Assumes nothing.
 use mathlib.Core.Path.{_≡_, refl, subst}
 use mathlib.Core.Logic.{_⊎_, inl, inr}
-use mathlib.Core.List.{List, [], _∷_, _++_, map, List·Memᴰ, List·Memᴰ·head, List·Memᴰ·tail, List·Memᴰ·not-nil, List·Memᴰ·append-cases, List·Memᴰ·eq-of-singleton, Memᴰ·append-left, Memᴰ·append-right}
-use Prim.Native.Nat.{ℕ, zero, suc, _<_, _≤_}
+use mathlib.Core.List.{List, [], _∷_, _++_, map, List·Memᴰ, List·Memᴰ·head, List·Memᴰ·tail, List·Memᴰ·not-nil, List·Memᴰ·append-cases, Memᴰ·cast, Memᴰ·append-left, Memᴰ·append-right}
+use Prim.Native.Nat.{ℕ, _<_, _≤_}
 use native.Mathlib.Omega.{arith}
 use lib.ListN.{length}
-use Rattle.std.proofs.shelf.Tests.{cases-lt}
-use Rattle.lists.specs.Lists.{below, join-all}
+use Rattle.lists.specs.Lists.{Once, join-all}
+use Rattle.chains.proofs.Listing.{once-append}
 
 pub join-in : {A B : Type 0} (f : A → List B) (xs : List A) {x : A} {w : B} → List·Memᴰ x xs → List·Memᴰ w (f x) → List·Memᴰ w (join-all f xs)
 join-in f [] h m = absurd (List·Memᴰ·not-nil h)
@@ -30,18 +30,8 @@ each-out c [] m = absurd (List·Memᴰ·not-nil m)
 each-out c (x ∷ xs) (List·Memᴰ·head e) = (omega arith, e)
 each-out c (x ∷ xs) (List·Memᴰ·tail m) = (omega arith, each-out c xs m .1)
 
-pub below-in : (x n : ℕ) → x < n → List·Memᴰ x (below n)
-below-in x zero h = absurd (omega arith)
-below-in x (suc n) h = go (cases-lt x n) (λ l. below-in x n l)
-  where
-    go : (x < n) ⊎ (n ≤ x) → (x < n → List·Memᴰ x (below n)) → List·Memᴰ x (below n ++ (n ∷ []))
-    go (inl l) earlier = Memᴰ·append-left (n ∷ []) (earlier l)
-    go (inr l) earlier = Memᴰ·append-right (below n) (List·Memᴰ·head (omega arith))
-
-pub below-out : (n : ℕ) {x : ℕ} → List·Memᴰ x (below n) → x < n
-below-out zero m = absurd (List·Memᴰ·not-nil m)
-below-out (suc n) {x} m = go (List·Memᴰ·append-cases (below n) m) (λ h. below-out n h)
-  where
-    go : List·Memᴰ x (below n) ⊎ List·Memᴰ x (n ∷ []) → (List·Memᴰ x (below n) → x < n) → x < suc n
-    go (inl h) earlier = omega (arith, earlier h)
-    go (inr h) earlier = omega (arith, List·Memᴰ·eq-of-singleton h)
+pub once-join : {A B : Type 0} (f : A → List B) (xs : List A) → Once xs → ((x : A) → Once (f x)) → ((x y : A) (b : B) → List·Memᴰ b (f x) → List·Memᴰ b (f y) → x ≡ y) → Once (join-all f xs)
+once-join f [] o each apart = tt
+once-join f (x ∷ xs) o each apart =
+    once-append (f x) (join-all f xs) (each x) (once-join f xs (o .1) each apart)
+    (λ b h k. let found = join-out f xs k in o .0 (Memᴰ·cast (apart x (found .0) b h (found .2)) (found .1)))

@@ -1,4 +1,5 @@
 pub mod Weights
+pub mod Every
 pub mod Levels
 pub mod Counts
 pub mod Least

@@ -6,5 +6,7 @@ pub mod least_weight;
 pub mod meaning;
 pub mod row_weight;
 pub mod rows_weight;
+#[cfg(test)]
+mod tests;
 pub mod walking;
 pub mod weight;

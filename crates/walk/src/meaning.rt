@@ -6,6 +6,7 @@ ghost use Rattle.chains.specs.Chains.{Chain, Short};
 ghost use Rattle.chains.specs.Table.{Holds, shown-members};
 ghost use Rattle.strategies.specs.Rows.{row-at};
 ghost use Rattle.strategies.specs.declared.marks.Mark.{Mark};
+ghost use Rattle.walk.specs.Every.{Chains-can-be-listed};
 ghost use Rattle.walk.specs.Meaning.{Nearest, arrived};
 ghost use Rattle.walk.specs.Least.{none};
 ghost use Rattle.walk.specs.Counts.{no-counts, no-rows, count-at, limited};
@@ -17,6 +18,14 @@ use crate::walking::MOST_ACCOUNTS;
 use crate::walking::walk;
 use strategies::rows::Row;
 use strategies::rows::Rows;
+
+/// Every chain down to a known account can be listed, each once, where no chain is longer than 7: so the walk's sum over such a list
+/// is always a sum over some list. Computes nothing.
+pub fn every_chain_can_be_listed() -> u8
+    ensures { λ _. ⌜ Chains-can-be-listed ⌝ }
+{
+    0
+}
 
 /// The least distance at which anything arrives at `s`, or none, where each account starts with a distance of its own or none.
 ///

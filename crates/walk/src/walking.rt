@@ -1,11 +1,13 @@
 // The walk: from every account down the memberships, level by level.
 ghost use mathlib.Core.Path.{_≡_};
 ghost use mathlib.Core.Bool.{true, cond};
+ghost use mathlib.Core.List.{List, map};
 ghost use Prim.Native.Nat.{ℕ, _<_, _≤_};
 ghost use lib.ListN.{length, getD};
 ghost use Rattle.chains.specs.Chains.{Short};
 ghost use Rattle.chains.specs.Table.{Holds, shown-members};
 ghost use Rattle.walk.specs.Weights.{total, arrivals};
+ghost use Rattle.walk.specs.Every.{Chain-to, Every-chain, brought};
 ghost use Rattle.walk.specs.Levels.{down};
 use crate::weight::Weight;
 
@@ -61,7 +63,8 @@ fn level_below<W: Weight + Copy>(
     let mut below = [W::nothing(); MOST_ACCOUNTS];
     for g in 0..accounts {
         if !level[g].is_nothing() {
-            spread(counts, accounts, g, &level[g].step(), &mut below);
+            let next = level[g].step();
+            spread(counts, accounts, g, &next, &mut below);
         }
     }
     below
@@ -93,6 +96,7 @@ pub fn walk<W: Weight + Copy>(
     requires known { ⌜ s < accounts ⌝ }
     ensures answer { λ r. ⌜ r ≡ total nothing plus (arrivals stepped accounts (shown-members accounts (now (counts .entry))) (λ a. getD (now (start .entry)) a nothing) s 8) ⌝ }
     ensures every { λ r. ⌜ (Short (shown-members accounts (now (counts .entry))) → (many : ℕ) → 8 ≤ many → r ≡ total nothing plus (arrivals stepped accounts (shown-members accounts (now (counts .entry))) (λ a. getD (now (start .entry)) a nothing) s many)) ⌝ }
+    ensures chains { λ r. ⌜ (Short (shown-members accounts (now (counts .entry))) → (cs : List (Chain-to (shown-members accounts (now (counts .entry))) s)) → Every-chain (shown-members accounts (now (counts .entry))) s cs → r ≡ total nothing plus (map (brought stepped (λ a. getD (now (start .entry)) a nothing)) cs)) ⌝ }
 {
     let mut level = *start;
     let mut sum = level[s];

@@ -27,12 +27,12 @@ loop-g-again g c =
       | then-not-is-nothing v ↦
           let again = v .index-level-g-then-not-is-nothing .result in
           let is = v .index-level-g-then-not-is-nothing .is in
-          let stepped : v .step .result ≡ f at = v .step .ensures ∙ ap (w .stepped) (sym is ∙ getD-read level at again within is (w .nothing)) in (
+          let stepped : v .step-next .result ≡ f at = v .step-next .ensures ∙ ap (w .stepped) (sym is ∙ getD-read level at again within is (w .nothing)) in (
             ap length (v .below-is) ∙ v .spread .ensures .all,
             λ x h.
                 let p : ℕ → Bool = λ y. shown-members n (c .args .counts .now) y x in
                 ap (λ r. getD r x (w .nothing)) (v .below-is) ∙ v .spread .ensures .each x h
-                ∙ ap (λ z. cond (p at) (w .plus z (v .step .result)) z) (c .loop-g .inv .1 x h)
+                ∙ ap (λ z. cond (p at) (w .plus z (v .step-next .result)) z) (c .loop-g .inv .1 x h)
                 ∙ ap (λ z. cond (p at) (w .plus _ z) _) stepped
                 ∙ sym (total-more laws f p at (p at) refl),
           )

@@ -13,6 +13,8 @@ use Rattle.walk.specs.Levels.{down}
 use Rattle.walk.proofs.Totals.{neutral-right}
 use Rattle.walk.proofs.Levels.{levels-are, levels-more, levels-stop, down-same}
 use Rattle.walk.proofs.AllChains.{no-more}
+use Rattle.walk.proofs.EveryChain.{any-listing}
+use Rattle.walk.proofs.Shown.{shown-within}
 use Rattle.walk.proofs.walking.walk.Needs as need
 
 pub loop-k-holds : need.loop-k-holds
@@ -65,7 +67,7 @@ returns-then-is-empty g c =
     c .loop-k .inv .2
     ∙ sym (levels-stop laws n E start s k (c .pre .known) (λ x h. sym (c .loop-k .inv .1 x h) ∙ c .is-empty .ensures (c .if-is-empty .taken) x h) 7 (omega arith))
     ∙ levels-are laws n E start s (c .pre .known) in
-    record { answer = answer; every = λ short many h. answer ∙ ap (total (w .nothing) (w .plus)) (sym (no-more n E short (w .stepped) start s many h)) }
+    record { answer = answer; every = λ short many h. answer ∙ ap (total (w .nothing) (w .plus)) (sym (no-more n E short (w .stepped) start s many h)); chains = λ short cs every. answer ∙ any-listing n E s laws (shown-within n (c .args .counts .now)) short (c .pre .known) start cs every }
 
 pub returns : need.returns
 returns g c =
@@ -81,4 +83,4 @@ returns g c =
     c .loop-k .inv .2
     ∙ ap (λ k. total (w .nothing) (w .plus) (map (λ j. times one j start s) (below (suc k)))) end
     ∙ levels-are laws n E start s (c .pre .known) in
-    record { answer = answer; every = λ short many h. answer ∙ ap (total (w .nothing) (w .plus)) (sym (no-more n E short (w .stepped) start s many h)) }
+    record { answer = answer; every = λ short many h. answer ∙ ap (total (w .nothing) (w .plus)) (sym (no-more n E short (w .stepped) start s many h)); chains = λ short cs every. answer ∙ any-listing n E s laws (shown-within n (c .args .counts .now)) short (c .pre .known) start cs every }
