@@ -1,14 +1,16 @@
 -- The sum over any list of every chain down to an account is the sum over the listed chains. Assumes nothing.
 use mathlib.Core.Path.{_≡_, refl, sym, ap, subst, _∙_, fun-ext}
 use mathlib.Core.List.{List, [], _∷_, map, List·Memᴰ, List·Memᴰ·head, List·Memᴰ·tail, Memᴰ·cast, Memᴰ·map, Memᴰ·of-map}
-use Prim.Native.Nat.{ℕ, _<_, _≤_}
+use Prim.Native.Nat.{ℕ, _<_}
 use Rattle.lists.specs.Lists.{Once, below, join-all}
 use Rattle.chains.specs.Chains.{Members, Chain, accounts, Within, Short, chains}
 use Rattle.chains.proofs.Listing.{below-has, once-map, once-below, listed-is-chain, chain-is-listed, listed-once}
 use Rattle.chains.proofs.Steps.{chain-top-known}
 use Rattle.chains.proofs.Unique.{chain-from-accounts}
-use Rattle.walk.specs.Weights.{Laws, total, times, arriving, arrivals}
+use Rattle.walk.specs.Weights.{Laws, total, times, arrivals}
 use Rattle.walk.specs.Every.{Chain-to, Every-chain, brought, Chains-can-be-listed}
+use Rattle.walk.specs.Walked.{Walked}
+use Rattle.walk.proofs.AllChains.{no-more}
 use Rattle.walk.proofs.Totals.{map-map, map-join}
 use Rattle.walk.proofs.Listed.{join-in, join-out, once-join}
 use Rattle.walk.proofs.AnyOrder.{same-total}
@@ -90,7 +92,7 @@ module _ (n : ℕ) (E : Members) (s : ℕ) where
       (fun-ext (λ k. map-join value (from-top k) (below n)
       ∙ ap (λ f. join-all f (below n)) (fun-ext (λ a. map-map value (λ path. (a, k, path)) (chains n E a s k)))))
 
-  pub any-listing : {W : Type 0} {none : W} {add : W → W → W} {next : W → W} → Laws none add next → Within n E → Short E → s < n → (start : ℕ → W) (cs : List (Chain-to E s)) → Every-chain E s cs → total none add (arrivals next n E start s 8) ≡ total none add (map (brought next start) cs)
+  any-listing : {W : Type 0} {none : W} {add : W → W → W} {next : W → W} → Laws none add next → Within n E → Short E → s < n → (start : ℕ → W) (cs : List (Chain-to E s)) → Every-chain E s cs → total none add (arrivals next n E start s 8) ≡ total none add (map (brought next start) cs)
   any-listing {W} {none} {add} {next} laws w short known start cs every =
       let value : Key → W = λ x. times next (x .1) (start (x .0)) in
       ap (total none add) (sym (listing-brings next start))
@@ -98,6 +100,14 @@ module _ (n : ℕ) (E : Members) (s : ℕ) where
       (λ x h. let c = from-listing x h in Memᴰ·cast (sym (c .1)) (Memᴰ·map key (every .all (c .0))))
       (λ x h. let c = Memᴰ·of-map key cs h in Memᴰ·cast (sym (c .2)) (in-listing w short known (c .0)))
       ∙ ap (total none add) (map-map value key cs)
+
+  -- the sum over the listed chains is all that the walk gives
+  pub walked : {W : Type 0} {none : W} {add : W → W → W} {next : W → W} → Laws none add next → Within n E → s < n → (start : ℕ → W) (r : W) → r ≡ total none add (arrivals next n E start s 8) → Walked none add next n E start s r
+  walked {W} {none} {add} {next} laws w known start r e = record {
+    answer = e;
+    every = λ short many h. e ∙ ap (total none add) (sym (no-more n E short next start s many h));
+    chains = λ short cs every. e ∙ any-listing laws w short known start cs every;
+  }
 
   -- the chains whose keys are given
   chosen : (xs : List Key) → ((x : Key) → List·Memᴰ x xs → (c : Chain-to E s) × (key c ≡ x)) → (cs : List (Chain-to E s)) × (map key cs ≡ xs)

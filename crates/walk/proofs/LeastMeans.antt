@@ -1,11 +1,11 @@
 -- In distances the walk finds the least one. Assumes nothing.
-use mathlib.Core.Path.{_≡_, refl, sym, ap, _∙_}
+use mathlib.Core.Path.{_≡_, refl, ap}
 use mathlib.Core.Logic.{_⊎_, inl, inr}
 use mathlib.Core.List.{List, [], _∷_, map, List·Memᴰ, List·Memᴰ·head, List·Memᴰ·tail, List·Memᴰ·not-nil}
 use Prim.Native.Nat.{ℕ, zero, suc, _+_, _<_, _≤_, min}
 use native.Mathlib.Omega.{arith}
 use Rattle.std.proofs.shelf.Tests.{cases-lt}
-use Rattle.lists.specs.Lists.{below, join-all}
+use Rattle.lists.specs.Lists.{below}
 use Rattle.chains.specs.Chains.{Members, Within, Chain, chains, count}
 use Rattle.chains.proofs.Listing.{below-has, below-bound, counted-is-chain, chain-is-counted}
 use Rattle.chains.proofs.Steps.{chain-top-known}
@@ -50,10 +50,14 @@ module _ (n : ℕ) (E : Members) (w : Within n E) (start : ℕ → Least) (s : �
       let short : k < 8 = below-bound 8 k (long .1) in
       (top .0, k, omega arith, counted-is-chain n E (top .0) s k (last .0), last .1)
 
+  least : (a k : ℕ) → k ≤ 7 → Chain E a k s → total none lesser (arrivals further n E start s 8) .distance ≤ start a .distance + k
+  least a k short c = omega (arith, total-le (arrivals further n E start s 8) (listed a k short c), further-times k (start a))
+
   pub nearest : Nearest E (λ a. start a .distance) s (total none lesser (arrivals further n E start s 8) .distance)
   nearest = record {
     fits = total none lesser (arrivals further n E start s 8) .fits;
-    least = λ a k short c. omega (arith, total-le (arrivals further n E start s 8) (listed a k short c), further-times k (start a));
+    least = least;
+    every = λ short a k c. let l = short a s k c in least a k (omega arith) c;
     reached = λ h.
         let t = total-some (arrivals further n E start s 8) h in
         let o = from-list (t .1) in

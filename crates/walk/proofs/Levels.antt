@@ -1,19 +1,18 @@
 -- The rows of weights, level by level, and the chains that they sum up. Assumes nothing.
 use mathlib.Core.Path.{_≡_, refl, sym, ap, subst, _∙_}
 use mathlib.Core.Bool.{Bool, true, false, cond}
-use mathlib.Core.List.{List, [], _∷_, _++_, map}
+use mathlib.Core.List.{[], _∷_, map}
 use Prim.Native.Nat.{ℕ, zero, suc, _<_, _≤_, _+_}
 use native.Mathlib.Omega.{arith}
-use native.Mathlib.Numerals.{add-one}
 use lib.Dec.{eqb}
 use Rattle.std.proofs.shelf.Lists.{map-append}
-use Rattle.lists.specs.Lists.{below, keep, join-all}
+use Rattle.lists.specs.Lists.{below, keep}
 use Rattle.chains.specs.Chains.{Members, chains}
 use Rattle.walk.specs.Weights.{Laws, total, times, arriving, arrivals}
 use Rattle.walk.specs.Levels.{from-groups, down}
 use Rattle.std.proofs.shelf.Tests.{cases-lt}
 use mathlib.Core.Logic.{_⊎_, inl, inr}
-use Rattle.walk.proofs.Totals.{total-none, neutral-right, map-same, map-map, map-join, kept-same, times-inside, total-append, total-push, total-join, times-total, total-swap, total-keep, total-cond, total-one}
+use Rattle.walk.proofs.Totals.{total-none, neutral-right, map-same, map-map, map-join, kept-same, times-inside, total-push, total-join, times-total, total-swap, total-keep, total-cond, total-one}
 
 module _ {W : Type 0} {none : W} {add : W → W → W} {next : W → W} (laws : Laws none add next) (n : ℕ) (E : Members) where
   -- one chain of length 0 leads to s

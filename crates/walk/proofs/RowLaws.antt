@@ -1,7 +1,7 @@
 -- The laws of rows of counts. Assumes nothing.
 use mathlib.Core.Path.{_≡_, refl, ap, sym, _∙_}
 use mathlib.Core.HLevel.{isProp→PathP, Π-prop}
-use Prim.Native.Nat.{ℕ, zero, suc, _<_, _≤_, _+_, _-_, min}
+use Prim.Native.Nat.{ℕ, zero, suc, _<_, _≤_, _+_, _-_}
 use native.Mathlib.Bridge.{le-prop}
 use native.Mathlib.Nat.{ℕ-set}
 use native.Mathlib.Omega.{arith}

@@ -1,7 +1,7 @@
 -- In rows the walk counts the arrivals at each distance. Assumes nothing.
 use mathlib.Core.Path.{_≡_, refl, sym, ap, _∙_}
-use mathlib.Core.Bool.{Bool, true, false, cond}
-use mathlib.Core.List.{List, [], _∷_, _++_, map}
+use mathlib.Core.Bool.{cond}
+use mathlib.Core.List.{List, [], _∷_, map}
 use Prim.Native.Nat.{ℕ, zero, suc, _+_, _-_, _*_, _<_, _≤_}
 use native.Mathlib.Nat.{zero-mul, suc-mul, add-comm}
 use native.Mathlib.Omega.{arith}
@@ -9,9 +9,9 @@ use lib.Dec.{leb, leb·suc-suc}
 use lib.ListN.{length}
 use Rattle.std.proofs.shelf.Tests.{cond-true, cond-false, le-leb, lt-leb}
 use Rattle.std.proofs.shelf.Lists.{map-append}
-use Rattle.lists.specs.Lists.{below, join-all, sum-below}
+use Rattle.lists.specs.Lists.{below, sum-below}
 use Rattle.lists.proofs.Sums.{sum-same, sum-swap}
-use Rattle.chains.specs.Chains.{Members, chains, count}
+use Rattle.chains.specs.Chains.{Members, Short, chains, count}
 use Rattle.strategies.specs.declared.rows.Row.{Row}
 use Rattle.strategies.specs.declared.rows.Rows.{Rows}
 use Rattle.strategies.specs.declared.marks.Mark.{Mark}
@@ -20,7 +20,7 @@ use Rattle.strategies.specs.declared.marks.Sign.the-variants.{Plus, Minus}
 use Rattle.strategies.specs.Rows.{row-at}
 use Rattle.walk.specs.Weights.{Laws, total, times, arriving, arrivals}
 use Rattle.walk.specs.Counts.{count-at, limited, no-counts, added, before, later, no-rows, added-rows, later-rows}
-use Rattle.walk.specs.Meaning.{arrived}
+use Rattle.walk.specs.Meaning.{arrived, Arrivals-counted}
 use Rattle.walk.proofs.Totals.{map-same, map-map, map-join, total-join, total-push}
 use Rattle.walk.proofs.Carried.{carried}
 use Rattle.walk.proofs.RowLaws.{count-of}
@@ -117,6 +117,7 @@ module _ (n : ℕ) (E : Members) (s many d : ℕ) (h : d < 15) where
   rows-count start Default =
       ap (λ x. count-at x d) (carried no-rows added-rows later-rows no-counts added later (λ (x : Rows). x .default) refl (λ x y. refl) (λ x. refl) n E start s many) ∙ row-counts (λ a. start a .default)
 
--- below the limit a count is exact
-pub exactly : (x y : ℕ) → x ≡ limited y → y ≤ 1000000000000 → x ≡ y
-exactly x y e h = omega arith
+-- so a count that is the limited number of arrivals is exact below the limit
+pub counted : (n : ℕ) (E : Members) (start : ℕ → ℕ → ℕ) (s : ℕ) (r : ℕ → ℕ) → ((d : ℕ) → d < 15 → r d ≡ limited (arrived n E start s 8 d)) →
+    (Short E → (many : ℕ) → 8 ≤ many → (d : ℕ) → d < 15 → r d ≡ limited (arrived n E start s many d)) → Arrivals-counted n E start s r
+counted n E start s r answer every = record { answer = answer; exact = λ d h few. let e = answer d h in omega arith; every = every }

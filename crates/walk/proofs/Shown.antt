@@ -1,15 +1,15 @@
 -- The memberships that chain counts show, between known accounts. Assumes nothing.
-use mathlib.Core.Path.{_≡_, refl, ap, _∙_}
-use mathlib.Core.Bool.{Bool, true, false, _&&_}
+use mathlib.Core.Path.{_≡_, ap, _∙_}
+use mathlib.Core.Bool.{_&&_}
 use mathlib.Core.List.{List}
-use Prim.Native.Nat.{ℕ, _+_, _*_, _<_, _≤_}
+use Prim.Native.Nat.{ℕ, _<_}
 use native.Mathlib.Omega.{arith}
 use lib.Dec.{ltb}
 use lib.ListN.{length}
 use Rattle.std.proofs.shelf.Tests.{and-parts, ltb-true, lt-ltb}
 use Rattle.std.proofs.shelf.Bits.{mul-add-lt}
-use Rattle.chains.specs.Chains.{Members, Within}
-use Rattle.chains.specs.Table.{place, size, entry, Holds, shown-members}
+use Rattle.chains.specs.Chains.{Within}
+use Rattle.chains.specs.Table.{place, entry, Holds, shown-members}
 
 -- the place of a count between known accounts is one of the list
 pub place-fits : (n : ℕ) (t : List ℕ) → Holds n t → (g m k : ℕ) → g < n → m < n → k < 8 → place n g m k < length t

@@ -1,7 +1,7 @@
 -- Rows of counts as weights: one row, and one for each mark. Assumes nothing.
-use mathlib.Core.Path.{_≡_, refl}
-use mathlib.Core.List.{List, map}
-use Prim.Native.Nat.{ℕ, zero, suc, _+_, _<_, _≤_, min}
+use mathlib.Core.Path.{refl}
+use mathlib.Core.List.{map}
+use Prim.Native.Nat.{ℕ, zero, suc, _+_, min}
 use native.Mathlib.Omega.{arith}
 use lib.ListN.{getD}
 use Rattle.std.specs.Iters.{counting}
@@ -46,11 +46,14 @@ later x = row-of (before x)
 abbrev pub three : Row → Row → Row → Rows
 three p m d = record { plus = p; minus = m; default = d }
 
+-- nothing of any mark
 abbrev pub no-rows : Rows
 no-rows = three no-counts no-counts no-counts
 
+-- each mark's arrivals of both
 abbrev pub added-rows : Rows → Rows → Rows
 added-rows x y = three (added (x .plus) (y .plus)) (added (x .minus) (y .minus)) (added (x .default) (y .default))
 
+-- each mark's arrivals one distance later
 abbrev pub later-rows : Rows → Rows
 later-rows x = three (later (x .plus)) (later (x .minus)) (later (x .default))

@@ -1,5 +1,5 @@
 -- A distance or none as a weight. Assumes nothing.
-use Prim.Native.Nat.{ℕ, _+_, _≤_, min}
+use Prim.Native.Nat.{_+_, min}
 use native.Mathlib.Omega.{arith}
 use Rattle.walk.specs.declared.least.Least.{Least}
 

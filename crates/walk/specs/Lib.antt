@@ -1,5 +1,6 @@
 pub mod Weights
 pub mod Every
+pub mod Walked
 pub mod Levels
 pub mod Counts
 pub mod Least

@@ -1,3 +1,4 @@
+// A distance or none.
 ghost use Prim.Native.Nat.{_≤_};
 
 /// A distance up to 254, or 255 for none.

@@ -1,15 +1,13 @@
 // What the walk finds for each kind of weight.
-ghost use mathlib.Core.Path.{_≡_};
-ghost use Prim.Native.Nat.{ℕ, _+_, _<_, _≤_};
+ghost use Prim.Native.Nat.{_<_};
 ghost use lib.ListN.{getD};
-ghost use Rattle.chains.specs.Chains.{Chain, Short};
 ghost use Rattle.chains.specs.Table.{Holds, shown-members};
 ghost use Rattle.strategies.specs.Rows.{row-at};
 ghost use Rattle.strategies.specs.declared.marks.Mark.{Mark};
 ghost use Rattle.walk.specs.Every.{Chains-can-be-listed};
-ghost use Rattle.walk.specs.Meaning.{Nearest, arrived};
+ghost use Rattle.walk.specs.Meaning.{Arrivals-counted, Nearest};
 ghost use Rattle.walk.specs.Least.{none};
-ghost use Rattle.walk.specs.Counts.{no-counts, no-rows, count-at, limited};
+ghost use Rattle.walk.specs.Counts.{no-counts, no-rows, count-at};
 use crate::least::Least;
 use crate::least_weight::LeastWeight;
 use crate::row_weight::RowWeight;
@@ -38,8 +36,7 @@ pub fn least_distance(
 ) -> Least
     requires holds { ⌜ Holds accounts (now counts) ⌝ }
     requires known { ⌜ s < accounts ⌝ }
-    ensures answer { λ r. ⌜ Nearest (shown-members accounts (now (counts .entry))) (λ a. getD (now (start .entry)) a none .distance) s (r .distance) ⌝ }
-    ensures every { λ r. ⌜ (Short (shown-members accounts (now (counts .entry))) → (a k : ℕ) → Chain (shown-members accounts (now (counts .entry))) a k s → r .distance ≤ getD (now (start .entry)) a none .distance + k) ⌝ }
+    ensures { λ r. ⌜ Nearest (shown-members accounts (now (counts .entry))) (λ a. getD (now (start .entry)) a none .distance) s (r .distance) ⌝ }
 {
     walk::<LeastWeight>(counts, accounts, start, s)
 }
@@ -55,8 +52,7 @@ pub fn row_of_arrivals(
 ) -> Row
     requires holds { ⌜ Holds accounts (now counts) ⌝ }
     requires known { ⌜ s < accounts ⌝ }
-    ensures answer { λ r. ⌜ ((d : ℕ) → d < 15 → count-at r d ≡ limited (arrived accounts (shown-members accounts (now (counts .entry))) (λ a. count-at (getD (now (start .entry)) a no-counts)) s 8 d)) ⌝ }
-    ensures every { λ r. ⌜ (Short (shown-members accounts (now (counts .entry))) → (many : ℕ) → 8 ≤ many → (d : ℕ) → d < 15 → count-at r d ≡ limited (arrived accounts (shown-members accounts (now (counts .entry))) (λ a. count-at (getD (now (start .entry)) a no-counts)) s many d)) ⌝ }
+    ensures { λ r. ⌜ Arrivals-counted accounts (shown-members accounts (now (counts .entry))) (λ a. count-at (getD (now (start .entry)) a no-counts)) s (count-at r) ⌝ }
 {
     walk::<RowWeight>(counts, accounts, start, s)
 }
@@ -72,9 +68,7 @@ pub fn rows_of_arrivals(
 ) -> Rows
     requires holds { ⌜ Holds accounts (now counts) ⌝ }
     requires known { ⌜ s < accounts ⌝ }
-    ensures answer { λ r. ⌜ ((m : Mark) (d : ℕ) → d < 15 → row-at r m d ≡ limited (arrived accounts (shown-members accounts (now (counts .entry))) (λ a. row-at (getD (now (start .entry)) a no-rows) m) s 8 d)) ⌝ }
-    ensures exact { λ r. ⌜ ((m : Mark) (d : ℕ) → d < 15 → arrived accounts (shown-members accounts (now (counts .entry))) (λ a. row-at (getD (now (start .entry)) a no-rows) m) s 8 d ≤ 1000000000000 → row-at r m d ≡ arrived accounts (shown-members accounts (now (counts .entry))) (λ a. row-at (getD (now (start .entry)) a no-rows) m) s 8 d) ⌝ }
-    ensures every { λ r. ⌜ (Short (shown-members accounts (now (counts .entry))) → (many : ℕ) → 8 ≤ many → (m : Mark) (d : ℕ) → d < 15 → row-at r m d ≡ limited (arrived accounts (shown-members accounts (now (counts .entry))) (λ a. row-at (getD (now (start .entry)) a no-rows) m) s many d)) ⌝ }
+    ensures { λ r. ⌜ ((m : Mark) → Arrivals-counted accounts (shown-members accounts (now (counts .entry))) (λ a. row-at (getD (now (start .entry)) a no-rows) m) s (row-at r m)) ⌝ }
 {
     walk::<RowsWeight>(counts, accounts, start, s)
 }

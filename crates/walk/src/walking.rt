@@ -1,13 +1,10 @@
 // The walk: from every account down the memberships, level by level.
 ghost use mathlib.Core.Path.{_≡_};
 ghost use mathlib.Core.Bool.{true, cond};
-ghost use mathlib.Core.List.{List, map};
 ghost use Prim.Native.Nat.{ℕ, _<_, _≤_};
 ghost use lib.ListN.{length, getD};
-ghost use Rattle.chains.specs.Chains.{Short};
 ghost use Rattle.chains.specs.Table.{Holds, shown-members};
-ghost use Rattle.walk.specs.Weights.{total, arrivals};
-ghost use Rattle.walk.specs.Every.{Chain-to, Every-chain, brought};
+ghost use Rattle.walk.specs.Walked.{Walked};
 ghost use Rattle.walk.specs.Levels.{down};
 use crate::weight::Weight;
 
@@ -94,9 +91,7 @@ pub fn walk<W: Weight + Copy>(
 ) -> W
     requires holds { ⌜ Holds accounts (now counts) ⌝ }
     requires known { ⌜ s < accounts ⌝ }
-    ensures answer { λ r. ⌜ r ≡ total nothing plus (arrivals stepped accounts (shown-members accounts (now (counts .entry))) (λ a. getD (now (start .entry)) a nothing) s 8) ⌝ }
-    ensures every { λ r. ⌜ (Short (shown-members accounts (now (counts .entry))) → (many : ℕ) → 8 ≤ many → r ≡ total nothing plus (arrivals stepped accounts (shown-members accounts (now (counts .entry))) (λ a. getD (now (start .entry)) a nothing) s many)) ⌝ }
-    ensures chains { λ r. ⌜ (Short (shown-members accounts (now (counts .entry))) → (cs : List (Chain-to (shown-members accounts (now (counts .entry))) s)) → Every-chain (shown-members accounts (now (counts .entry))) s cs → r ≡ total nothing plus (map (brought stepped (λ a. getD (now (start .entry)) a nothing)) cs)) ⌝ }
+    ensures { λ r. ⌜ Walked nothing plus stepped accounts (shown-members accounts (now (counts .entry))) (λ a. getD (now (start .entry)) a nothing) s r ⌝ }
 {
     let mut level = *start;
     let mut sum = level[s];

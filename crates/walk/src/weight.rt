@@ -1,3 +1,4 @@
+// What a kind of weight is.
 ghost use mathlib.Core.Path.{_≡_};
 ghost use mathlib.Core.Bool.{true};
 ghost use Rattle.walk.specs.Weights.{Laws};

@@ -1,6 +1,4 @@
-use mathlib.Core.Path.{subst, sym, ap}
-use Prim.Native.Nat.{ℕ}
-use native.Mathlib.Omega.{arith}
+use mathlib.Core.Path.{subst, sym}
 use lib.ListN.{getD}
 use Rattle.chains.specs.Table.{shown-members}
 use Rattle.walk.specs.Least.{none}
@@ -13,8 +11,5 @@ pub returns : need.returns
 returns c =
     let n = c .args .accounts in
     let E = shown-members n (c .args .counts .now) in
-    let s = c .args .s in
-    let answer : Nearest E (λ a. getD (c .args .start .now) a none .distance) s (c .walk .result .distance) =
-    subst (λ x. Nearest E (λ a. getD (c .args .start .now) a none .distance) s (x .distance)) (sym (c .walk .ensures .answer))
-    (nearest n E (shown-within n (c .args .counts .now)) (λ a. getD (c .args .start .now) a none) s (c .pre .known)) in
-    record { answer = answer; every = λ short a k chain. let l = short a s k chain in answer .least a k (omega arith) chain }
+    subst (λ x. Nearest E (λ a. getD (c .args .start .now) a none .distance) (c .args .s) (x .distance)) (sym (c .walk .ensures .answer))
+    (nearest n E (shown-within n (c .args .counts .now)) (λ a. getD (c .args .start .now) a none) (c .args .s) (c .pre .known))

@@ -1,6 +1,6 @@
 use mathlib.Core.Path.{_≡_, refl, sym, ap, _∙_}
 use mathlib.Core.List.{map}
-use Prim.Native.Nat.{ℕ, _<_, _≤_, suc}
+use Prim.Native.Nat.{ℕ, _<_, suc}
 use native.Mathlib.Omega.{arith}
 use native.Mathlib.Numerals.{add-one}
 use borrow.Author.Needs.{needs}
@@ -12,9 +12,8 @@ use Rattle.walk.specs.Weights.{total, times}
 use Rattle.walk.specs.Levels.{down}
 use Rattle.walk.proofs.Totals.{neutral-right}
 use Rattle.walk.proofs.Levels.{levels-are, levels-more, levels-stop, down-same}
-use Rattle.walk.proofs.AllChains.{no-more}
-use Rattle.walk.proofs.EveryChain.{any-listing}
 use Rattle.walk.proofs.Shown.{shown-within}
+use Rattle.walk.proofs.EveryChain.{walked}
 use Rattle.walk.proofs.walking.walk.Needs as need
 
 pub loop-k-holds : need.loop-k-holds
@@ -63,11 +62,10 @@ returns-then-is-empty g c =
     let E = shown-members n (c .args .counts .now) in
     let start : ℕ → g .W .Denot = λ y. getD (c .args .start .now) y (w .nothing) in
     let k = c .loop-k .-k in
-    let answer =
-    c .loop-k .inv .2
+    walked n E s laws (shown-within n (c .args .counts .now)) (c .pre .known) start (c .loop-k .sum)
+    (c .loop-k .inv .2
     ∙ sym (levels-stop laws n E start s k (c .pre .known) (λ x h. sym (c .loop-k .inv .1 x h) ∙ c .is-empty .ensures (c .if-is-empty .taken) x h) 7 (omega arith))
-    ∙ levels-are laws n E start s (c .pre .known) in
-    record { answer = answer; every = λ short many h. answer ∙ ap (total (w .nothing) (w .plus)) (sym (no-more n E short (w .stepped) start s many h)); chains = λ short cs every. answer ∙ any-listing n E s laws (shown-within n (c .args .counts .now)) short (c .pre .known) start cs every }
+    ∙ levels-are laws n E start s (c .pre .known))
 
 pub returns : need.returns
 returns g c =
@@ -79,8 +77,7 @@ returns g c =
     let start : ℕ → g .W .Denot = λ y. getD (c .args .start .now) y (w .nothing) in
     let one : (ℕ → g .W .Denot) → ℕ → g .W .Denot = down (w .nothing) (w .plus) (w .stepped) n E in
     let end : c .loop-k .-k ≡ 7 = omega arith in
-    let answer =
-    c .loop-k .inv .2
+    walked n E s laws (shown-within n (c .args .counts .now)) (c .pre .known) start (c .loop-k .sum)
+    (c .loop-k .inv .2
     ∙ ap (λ k. total (w .nothing) (w .plus) (map (λ j. times one j start s) (below (suc k)))) end
-    ∙ levels-are laws n E start s (c .pre .known) in
-    record { answer = answer; every = λ short many h. answer ∙ ap (total (w .nothing) (w .plus)) (sym (no-more n E short (w .stepped) start s many h)); chains = λ short cs every. answer ∙ any-listing n E s laws (shown-within n (c .args .counts .now)) short (c .pre .known) start cs every }
+    ∙ levels-are laws n E start s (c .pre .known))
