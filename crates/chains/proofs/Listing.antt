@@ -12,7 +12,7 @@ use Rattle.std.proofs.shelf.Tests.{eqb-true, eq-eqb, cases-eq}
 use Rattle.lists.specs.Lists.{Once, below, keep, join-all}
 use Rattle.chains.specs.Chains.{Members, Chain, here, down, accounts, Within, chains, count}
 
-below-has : (n m : ℕ) → m < n → List·Memᴰ m (below n)
+pub below-has : (n m : ℕ) → m < n → List·Memᴰ m (below n)
 below-has zero m l = absurd (not-suc-le-zero l)
 below-has (suc n) m l = split (cases-eq m n) (λ (l′ : m < n). below-has n m l′)
   where
@@ -20,7 +20,7 @@ below-has (suc n) m l = split (cases-eq m n) (λ (l′ : m < n). below-has n m l
     split (inl e) before = Memᴰ·append-right (below n) (List·Memᴰ·head e)
     split (inr d) before = Memᴰ·append-left (n ∷ []) (before (omega arith))
 
-below-bound : (n m : ℕ) → List·Memᴰ m (below n) → m < n
+pub below-bound : (n m : ℕ) → List·Memᴰ m (below n) → m < n
 below-bound zero m h = absurd (List·Memᴰ·not-nil h)
 below-bound (suc n) m h = split (List·Memᴰ·append-cases (below n) h) (λ (h′ : List·Memᴰ m (below n)). below-bound n m h′)
   where
@@ -28,19 +28,19 @@ below-bound (suc n) m h = split (List·Memᴰ·append-cases (below n) h) (λ (h�
     split (inl h′) before = let l = before h′ in omega arith
     split (inr h′) before = let e = List·Memᴰ·eq-of-singleton h′ in omega arith
 
-once-append : {A : Type 0} (xs ys : List A) → Once xs → Once ys → ((x : A) → List·Memᴰ x xs → List·Memᴰ x ys → ⊥) → Once (xs ++ ys)
+pub once-append : {A : Type 0} (xs ys : List A) → Once xs → Once ys → ((x : A) → List·Memᴰ x xs → List·Memᴰ x ys → ⊥) → Once (xs ++ ys)
 once-append [] ys ox oy apart = oy
 once-append (x ∷ xs) ys ox oy apart = (
   λ h. ⊎-elim (ox .0) (apart x (List·Memᴰ·head refl)) (List·Memᴰ·append-cases xs h),
   once-append xs ys (ox .1) oy (λ z h k. apart z (List·Memᴰ·tail h) k),
 )
 
-once-map : {A B : Type 0} (f : A → B) → ((x y : A) → f x ≡ f y → x ≡ y) → (xs : List A) → Once xs → Once (map f xs)
+pub once-map : {A B : Type 0} (f : A → B) → ((x y : A) → f x ≡ f y → x ≡ y) → (xs : List A) → Once xs → Once (map f xs)
 once-map f inj [] o = tt
 once-map f inj (x ∷ xs) o =
     (λ h. let from = Memᴰ·of-map f xs h in o .0 (Memᴰ·cast (sym (inj (from .0) x (from .2))) (from .1)), once-map f inj xs (o .1))
 
-once-below : (n : ℕ) → Once (below n)
+pub once-below : (n : ℕ) → Once (below n)
 once-below zero = tt
 once-below (suc n) = once-append (below n) (n ∷ []) (once-below n) (List·Memᴰ·not-nil, tt) apart
   where

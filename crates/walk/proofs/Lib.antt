@@ -1,0 +1,12 @@
+pub mod Totals
+pub mod Levels
+pub mod AllChains
+pub mod AnyOrder
+pub mod EveryChain
+pub mod Listed
+pub mod Shown
+pub mod Distances
+pub mod RowLaws
+pub mod Carried
+pub mod RowMeans
+pub mod LeastMeans
