@@ -35,7 +35,7 @@ impl ItemCounts {
     }
 }
 
-// Is any number of the row not 0?
+/// Is any number of the row not 0?
 pub fn any_chain(row: &[u32]) -> bool
     ensures answer { λ r. ⌜ r ≡ some (ltb 0) (now (row .entry)) ⌝ }
 {

@@ -13,6 +13,7 @@ pub use channels::Channels;
 pub use channels::ChannelsPlan;
 pub use counting::item_counts;
 pub use counts::ItemCounts;
+pub use counts::any_chain;
 pub use equipment::Equipment;
 pub use equipment::EquipmentPlan;
 pub use plan::Plan;

@@ -1,0 +1,9 @@
+pub mod Refusals
+pub mod Grants
+pub mod Model
+pub mod Question
+pub mod Runs
+pub mod RunLaws
+pub mod Counted
+pub mod ListingLaws
+pub mod Charts
