@@ -1,5 +1,5 @@
 -- Tests of a set of memberships, by listing its chains. They compute. Assumes nothing.
-use mathlib.Core.Bool.{Bool}
+use mathlib.Core.Bool.{Bool, not}
 use Prim.Native.Nat.{ℕ}
 use lib.Dec.{ltb}
 use Rattle.lists.specs.Lists.{any-at-all, below, some}
@@ -20,3 +20,7 @@ too-long n E = some-pair n (λ a s. any-at-all (chains n E a s 8))
 -- does a count pass 99,999?
 unfoldable pub too-many : ℕ → Members → Bool
 too-many n E = some-pair n (λ a s. some (λ k. ltb 99999 (count n E a s k)) (below 8))
+
+-- is the account a member of no group?
+unfoldable pub groupless : ℕ → Members → ℕ → Bool
+groupless n E a = not (some (λ g. E g a) (below n))

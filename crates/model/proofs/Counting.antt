@@ -14,6 +14,7 @@ use Rattle.lists.specs.Lists.{any-at-all, below, join-all, keep, some, sum-belo
 use Rattle.lists.proofs.Sums.{sum-same, sum-zero, sum-one, sum-times}
 use Rattle.lists.proofs.Kept.{kept-append, kept-joined, kept-same, sumBy-same, sumBy-zero, sumBy-same-all, sumBy-below, sumBy-kept}
 use Rattle.chains.specs.Chains.{Members, chains, count}
+use Rattle.chains.specs.Tests.{groupless}
 use Rattle.plans.specs.Items.{Items, item-chains}
 use Rattle.strategies.specs.Resolve.{same-sign}
 use Rattle.strategies.specs.Rows.{counted, same-mark}
@@ -22,7 +23,7 @@ use Rattle.strategies.specs.declared.marks.Mark.{Mark}
 use Rattle.strategies.specs.declared.marks.Mark.the-variants.{Signed, Default}
 use Rattle.strategies.specs.declared.marks.Arrival.{Arrival}
 use Rattle.model.specs.Model.{Model}
-use Rattle.model.specs.Question.{over-chains, grant-arrivals, groupless, at-or-above, labelled, unmarked, default-marks, listing}
+use Rattle.model.specs.Question.{over-chains, grant-arrivals, at-or-above, labelled, unmarked, default-marks, listing}
 use Rattle.model.specs.Counted.{Lengths, listed-lengths, products, of-grant, of-grants, above-by, labels, labelled-by, unmarked-by, of-accounts}
 use Rattle.model.specs.declared.grant.Grant.{Grant}
 

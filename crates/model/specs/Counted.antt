@@ -10,7 +10,7 @@ use Rattle.chains.specs.Chains.{Members, count}
 use Rattle.plans.specs.Items.{Items, item-chains}
 use Rattle.strategies.specs.Resolve.{same-sign}
 use Rattle.strategies.specs.declared.marks.Sign.{Sign}
-use Rattle.model.specs.Question.{groupless}
+use Rattle.chains.specs.Tests.{groupless}
 use Rattle.model.specs.declared.grant.Grant.{Grant}
 
 -- how many item chains lead down from each item, at each length

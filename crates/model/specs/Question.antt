@@ -5,6 +5,7 @@ use Prim.Native.Nat.{ℕ, _+_}
 use lib.Dec.{eqb}
 use Rattle.lists.specs.Lists.{any-at-all, below, join-all, keep, some}
 use Rattle.chains.specs.Chains.{Members, chains}
+use Rattle.chains.specs.Tests.{groupless}
 use Rattle.plans.specs.Items.{Items, item-chains}
 use Rattle.strategies.specs.Resolve.{votes, tally, least-of, decided}
 use Rattle.strategies.specs.Rows.{counted, same-mark}
@@ -35,10 +36,6 @@ grant-arrivals n E I s o r g =
     cond (eqb (g .right) r)
     (join-all (λ j. join-all (λ path. over-chains n E (g .account) s (Signed (g .sign)) j) (item-chains I (g .item) o j)) (below 8))
     []
-
--- member of no group
-unfoldable pub groupless : ℕ → Members → ℕ → Bool
-groupless n E a = not (some (λ g. E g a) (below n))
 
 -- is item b item o, or above it?
 unfoldable pub at-or-above : Items → ℕ → ℕ → Bool

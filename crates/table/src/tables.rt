@@ -3,7 +3,7 @@
 ghost use Prim.Native.Nat.{ℕ, _<_};
 ghost use Rattle.chains.specs.Chains.{Chain, count, no-members};
 ghost use Rattle.chains.specs.Table.{row-of, size};
-ghost use Rattle.chains.specs.Tests.{leads};
+ghost use Rattle.chains.specs.Tests.{groupless, leads};
 ghost use Rattle.table.specs.Tables.{Largest, Sound-table, behind, members-in};
 ghost use lib.ListN.{drop, length};
 ghost use mathlib.Core.Bool.{true};
@@ -81,6 +81,20 @@ impl<'a> Table<'a> {
         ensures { λ r. ⌜ r ≡ members-in (now (self .entry)) group member ⌝ }
     {
         count_at(self.counts, self.accounts, group, member, 1) > 0
+    }
+
+    /// Is the account a member of none?
+    pub fn groupless(&self, a: usize) -> bool
+        requires sound { ⌜ Sound-table (now self) ⌝ }
+        requires account { ⌜ a < now self .accounts ⌝ }
+        ensures { λ r. ⌜ r ≡ groupless (now (self .entry) .accounts) (members-in (now (self .entry))) a ⌝ }
+    {
+        for group in 0..self.accounts {
+            if self.stands(group, a) {
+                return false;
+            }
+        }
+        true
     }
 
     /// Does a chain, of whatever length, lead from `a` down to `s`?

@@ -1,11 +1,11 @@
 use mathlib.Core.Path.{refl}
 use Rattle.chains.specs.Chains.{chains, count}
-use Rattle.chains.specs.Tests.{leads, too-long, too-many}
+use Rattle.chains.specs.Tests.{groupless, leads, too-long, too-many}
 use Rattle.plans.specs.Items.{item-chains}
 use Rattle.strategies.specs.Resolve.{votes, chosen, tally, resolve}
 use Rattle.strategies.specs.Rows.{counted}
 use Rattle.model.specs.Model.{join-outcome, leave-outcome, give-outcome, joined, left, given}
-use Rattle.model.specs.Question.{over-chains, grant-arrivals, groupless, at-or-above, labelled, default-marks, listing}
+use Rattle.model.specs.Question.{over-chains, grant-arrivals, at-or-above, labelled, default-marks, listing}
 use Rattle.model.proofs.laws.worked_charts.Needs as need
 
 pub returns : need.returns
