@@ -36,9 +36,6 @@ below-bound : (bound n : ℕ) → length (keep (λ k. ltb k bound) (below n)) �
 below-bound bound zero = omega arith
 below-bound bound (suc n) = split (cases-lt n bound) (below-bound bound n)
   where
-    test : ℕ → Bool
-    test k = ltb k bound
-
     split : (n < bound) ⊎ (bound ≤ n) → length (keep (λ k. ltb k bound) (below n)) ≡ min n bound
         → length (keep (λ k. ltb k bound) (below (suc n))) ≡ min (suc n) bound
     split (inl l) before =
