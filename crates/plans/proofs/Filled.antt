@@ -36,9 +36,6 @@ below-bound : (bound n : ℕ) → length (keep (λ k. ltb k bound) (below n)) �
 below-bound bound zero = omega arith
 below-bound bound (suc n) = split (cases-lt n bound) (below-bound bound n)
   where
-    test : ℕ → Bool
-    test k = ltb k bound
-
     split : (n < bound) ⊎ (bound ≤ n) → length (keep (λ k. ltb k bound) (below n)) ≡ min n bound
         → length (keep (λ k. ltb k bound) (below (suc n))) ≡ min (suc n) bound
     split (inl l) before =
@@ -83,17 +80,21 @@ pub tallest-both : (f : ℕ → ℕ) (a b : Option ℕ) → tallest f (both a b)
 tallest-both f None b = omega arith
 tallest-both f (Some x) b = omega arith
 
-pub or-first : (p q t : Bool) → p ≡ true → ((p || q) || t) ≡ true
-or-first p q t e = rw e
+-- three tests, from what each came to
+pub or-first : (p q t : Bool) → true ≡ p → ((p || q) || t) ≡ true
+or-first p q t e = rw (← e)
 
-pub or-second : (p q t : Bool) → p ≡ false → q ≡ true → ((p || q) || t) ≡ true
-or-second p q t e f = rw (e, f)
+pub or-second : (p q t : Bool) → false ≡ p → true ≡ q → ((p || q) || t) ≡ true
+or-second p q t e f = rw (← e, ← f)
 
-pub or-third : (p q t : Bool) → p ≡ false → q ≡ false → t ≡ true → ((p || q) || t) ≡ true
-or-third p q t e f g = rw (e, f, g)
+pub or-third : (p q t : Bool) → false ≡ p → false ≡ q → true ≡ t → ((p || q) || t) ≡ true
+or-third p q t e f g = rw (← e, ← f, ← g)
 
-pub or-none : (p q t : Bool) → p ≡ false → q ≡ false → t ≡ false → ((p || q) || t) ≡ false
-or-none p q t e f g = rw (e, f, g)
+pub or-none : (p q t : Bool) → false ≡ p → false ≡ q → false ≡ t → ((p || q) || t) ≡ false
+or-none p q t e f g = rw (← e, ← f, ← g)
+
+pub neither : (p q : Bool) → false ≡ p → false ≡ q → (p || q) ≡ false
+neither p q e f = rw (← e, ← f)
 
 -- the three checks in their order
 abbrev verdict : Bool → Bool → Bool → Result (Unit {0}) EquipmentRefusal

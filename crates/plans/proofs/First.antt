@@ -14,8 +14,8 @@ use Rattle.plans.proofs.Entries.{written, written-here, written-beside, writte
 use Rattle.plans.proofs.PassUp.{passed-start}
 
 module _ (t : List (List ℕ)) (empty : Empty t) (o : ℕ) (l : o < 256) where
-  pub first-full : Full (written t o 0 1)
-  first-full = written-full t (empty .full) o 0 1 l (omega arith)
+  pub first-full : (v : ℕ) → Full (written t o 0 v)
+  first-full v = written-full t (empty .full) o 0 v l (omega arith)
 
   pub first-passed : (M : Items) → Lawful M → Passed M o (o + 1) (entry (written t o 0 1))
   first-passed M lawful =

@@ -19,12 +19,15 @@ both first second = listOf first ++ listOf second
 abbrev pub blank : Place
 blank = record { first = None; second = None; height = 0 }
 
+-- the place that an item fills
 abbrev pub place-at : List Place → ℕ → Place
 place-at places item = getD places item blank
 
+-- the containers that it keeps
 abbrev pub containers-at : List Place → ℕ → List ℕ
 containers-at places item = both (place-at places item .first) (place-at places item .second)
 
+-- the height that it keeps
 abbrev pub height-at : List Place → ℕ → ℕ
 height-at places item = place-at places item .height
 

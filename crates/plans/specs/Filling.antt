@@ -46,6 +46,7 @@ abbrev pub first-refusal : List (Bool × EquipmentRefusal) → Result (Unit {0})
 first-refusal [] = Ok tt
 first-refusal (check ∷ rest) = cond (check .0) (Err (check .1)) (first-refusal rest)
 
+-- what adding an item answers
 abbrev pub add-answer : Items → ℕ → Option ℕ → Option ℕ → Result (Unit {0}) EquipmentRefusal
 add-answer M item first second = first-refusal (checks M item first second)
 
@@ -54,5 +55,6 @@ abbrev pub behind : Result (Unit {0}) EquipmentRefusal → Items → ℕ → Lis
 behind (Ok _) M item containers = with-item M item containers
 behind (Err _) M item containers = M
 
+-- the plan after a call that adds an item
 abbrev pub add-after : Items → ℕ → Option ℕ → Option ℕ → Items
 add-after M item first second = behind (add-answer M item first second) M item (both first second)

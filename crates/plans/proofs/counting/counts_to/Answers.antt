@@ -9,7 +9,7 @@ use Rattle.plans.proofs.counting.counts_to.Needs as need
 
 pub loop-item-holds : need.loop-item-holds
 loop-item-holds g c = (
-  first-full (c .no-counts-counts .result) (c .no-counts-counts .ensures .made) (c .args .o) (c .if-o-ge256 .left),
+  first-full (c .no-counts-counts .result) (c .no-counts-counts .ensures .made) (c .args .o) (c .if-o-ge256 .left) _,
   first-passed (c .no-counts-counts .result) (c .no-counts-counts .ensures .made) (c .args .o) (c .if-o-ge256 .left)
       (g .P·Plan .meaning (c .args .plan .now)) (g .P·Plan·met .lawful (c .args .plan .now)),
 )

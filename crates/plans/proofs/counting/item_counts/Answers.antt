@@ -7,7 +7,7 @@ ghost-result g c = (
   (
     c .counts-to .ensures .full .wide,
     (
-      counts-few (g .P·Plan .meaning (c .args .plan .now)) (g .P·Plan·met .lawful (c .args .plan .now)) (c .args .item) (c .counts-to .result) (c .counts-to .ensures .counted),
+      counts-few (g .P·Plan .meaning (c .args .plan .now)) (g .P·Plan·met .lawful (c .args .plan .now)) _ (c .counts-to .result) (c .counts-to .ensures .counted),
       tt,
     ),
   ),

@@ -14,7 +14,7 @@ use Rattle.plans.specs.Items.{Items, tallest, height-of}
 use Rattle.plans.specs.Equipment.{both, twice}
 use Rattle.plans.specs.Filling.{some-unknown, behind}
 use Rattle.plans.specs.Table.{table}
-use Rattle.plans.proofs.Filled.{answer-not-next, answer-bad, answer-high, answer-ok, unknown-both, tallest-both, or-first, or-second, or-third, or-none}
+use Rattle.plans.proofs.Filled.{answer-not-next, answer-bad, answer-high, answer-ok, unknown-both, tallest-both, or-first, or-second, or-third, or-none, neither}
 use Rattle.plans.proofs.Added.{good-added, table-added}
 use Rattle.plans.proofs.equipment.Equipment.add.Needs as need
 use Rattle.plans.proofs.equipment.Equipment.add.Needs.{then-lacks·by·then-lacks, then-lacks·by·else-lacks·then-lacks-2, then-lacks·by·else-lacks·else-lacks-2·then-same}
@@ -40,10 +40,10 @@ returns-then-lacks c =
     let room : c .args .item < 256 = omega arith in
     let answered = answer-bad (e .places) (e .filled) (c .args .item) (c .args .first) (c .args .second) (e .within) (c .if-item-self .left) room
     (elim (c .then-lacks .came) [
-      | then-lacks·by·then-lacks w ↦ or-first a b t (sym (w .if-lacks .ensures tt .answer))
-      | then-lacks·by·else-lacks·then-lacks-2 w ↦ or-second a b t (sym (w .if-lacks .ensures tt .answer)) (sym (w .if-lacks-2 .ensures tt .answer))
+      | then-lacks·by·then-lacks w ↦ or-first a b t (w .if-lacks .ensures tt .answer)
+      | then-lacks·by·else-lacks·then-lacks-2 w ↦ or-second a b t (w .if-lacks .ensures tt .answer) (w .if-lacks-2 .ensures tt .answer)
       | then-lacks·by·else-lacks·else-lacks-2·then-same w ↦
-          or-third a b t (sym (w .if-lacks .ensures tt .answer)) (sym (w .if-lacks-2 .ensures tt .answer)) (sym (w .if-same .ensures tt .answer))
+          or-third a b t (w .if-lacks .ensures tt .answer) (w .if-lacks-2 .ensures tt .answer) (w .if-same .ensures tt .answer)
     ]) in
     record { answer = answered; after = same-behind (table e) (c .args .item) (both (c .args .first) (c .args .second)) _ _ answered; same = refl }
 
@@ -55,7 +55,8 @@ returns-then-height-gt-HIGHEST c =
     let room : c .args .item < 256 = omega arith in
     let high : 7 < max (tallest (height-of M) (listOf (c .args .first))) (tallest (height-of M) (listOf (c .args .second))) = omega arith in
     let answered = answer-high (e .places) (e .filled) (c .args .item) (c .args .first) (c .args .second) (e .within) (c .if-item-self .left) room
-    (or-none _ _ _ (sym (c .if-lacks .ensures tt .answer)) (sym (c .if-lacks-2 .ensures tt .answer)) (sym (c .if-same .ensures tt .answer))) high in
+    (or-none (some-unknown M (listOf (c .args .first))) (some-unknown M (listOf (c .args .second))) (twice (c .args .first) (c .args .second))
+    (c .if-lacks .ensures tt .answer) (c .if-lacks-2 .ensures tt .answer) (c .if-same .ensures tt .answer)) high in
     record { answer = answered; after = same-behind M (c .args .item) (both (c .args .first) (c .args .second)) _ _ answered; same = refl }
 
 pub ghost-self : need.ghost-self
@@ -65,7 +66,9 @@ ghost-self c =
     let within = e .within in
     let room : c .args .item < 256 = omega arith in
     let known : some-unknown M (both (c .args .first) (c .args .second)) ≡ false =
-    unknown-both M (c .args .first) (c .args .second) ∙ neither _ _ (sym (c .if-lacks .ensures tt .answer)) (sym (c .if-lacks-2 .ensures tt .answer)) in
+    unknown-both M (c .args .first) (c .args .second)
+    ∙ neither (some-unknown M (listOf (c .args .first))) (some-unknown M (listOf (c .args .second)))
+    (c .if-lacks .ensures tt .answer) (c .if-lacks-2 .ensures tt .answer) in
     let high : c .max-height .result ≡ tallest (height-of M) (both (c .args .first) (c .args .second)) =
     let t = tallest-both (height-of M) (c .args .first) (c .args .second) in omega arith in (
       simp length-set (e .size),
@@ -78,9 +81,6 @@ ghost-self c =
         ),
       ),
     )
-  where
-    neither : (p q : Bool) → p ≡ false → q ≡ false → (p || q) ≡ false
-    neither p q f g = rw (f, g)
 
 pub returns : need.returns
 returns c =
@@ -90,7 +90,8 @@ returns c =
     let room : c .args .item < 256 = omega arith in
     let low : max (tallest (height-of M) (listOf (c .args .first))) (tallest (height-of M) (listOf (c .args .second))) ≤ 7 = omega arith in
     let answered = answer-ok (e .places) (e .filled) (c .args .item) (c .args .first) (c .args .second) (e .within) (c .if-item-self .left) room
-    (or-none _ _ _ (sym (c .if-lacks .ensures tt .answer)) (sym (c .if-lacks-2 .ensures tt .answer)) (sym (c .if-same .ensures tt .answer))) low in
+    (or-none (some-unknown M (listOf (c .args .first))) (some-unknown M (listOf (c .args .second))) (twice (c .args .first) (c .args .second))
+    (c .if-lacks .ensures tt .answer) (c .if-lacks-2 .ensures tt .answer) (c .if-same .ensures tt .answer)) low in
     record {
       answer = answered;
       after = table-added (e .places) (e .filled) (c .args .item) (c .args .first) (c .args .second) (c .max-height .result) (e .size) (c .if-item-self .left) room
