@@ -1,6 +1,6 @@
 -- No row of a listing is far, and there are not too many. Assumes nothing.
 use mathlib.Core.Path.{_≡_, refl, sym, ap, _∙_}
-use mathlib.Core.Bool.{Bool, true, false, cond, _||_, _&&_}
+use mathlib.Core.Bool.{Bool, true, false, cond, _||_, _&&_, true≢false}
 use mathlib.Core.List.{List, [], _∷_, _++_, map}
 use Prim.Native.Nat.{ℕ, zero, suc, _+_, _*_, _^_, _<_, _≤_}
 use native.Mathlib.Omega.{arith}
@@ -10,7 +10,7 @@ use lib.ListN.{length, length-append, length-map}
 use Rattle.std.specs.shelf.Lists.{All, sumBy}
 use Rattle.std.proofs.shelf.Elements.{all-append, all-weaker}
 use Rattle.std.proofs.shelf.Sums.{sumBy-le}
-use Rattle.std.proofs.shelf.Tests.{ltb-false, ltb-true, not-false, or-parts}
+use Rattle.std.proofs.shelf.Tests.{and-right, ltb-false, ltb-true, ne-eqb, not-false, or-parts}
 use Rattle.lists.specs.Lists.{below, join-all, keep, some, sum-below}
 use Rattle.lists.proofs.Sums.{sum-le, sum-bound, sum-times}
 use Rattle.lists.proofs.Kept.{length-joined, sumBy-same, sumBy-same-all, sumBy-below, sumBy-kept}
@@ -95,6 +95,21 @@ kept-le f (x ∷ xs) = step (f x) (kept-le f xs)
 pub counted-le : (m : Mark) (rows : List Arrival) (d : ℕ) → counted m rows d ≤ length rows
 unfolding counted
 counted-le m rows d = kept-le (λ r. same-mark m (r .mark) && eqb (r .distance) d) rows
+
+-- nothing is counted farther away than that
+pub counted-far : (n : ℕ) (M : Model) (I : Items) (s o r : ℕ) (m : Mark) (d : ℕ) → 15 ≤ d → counted m (listing n M I s o r) d ≡ 0
+unfolding counted
+counted-far n M I s o r m d far = none (listing n M I s o r) (listed-near n M I s o r)
+  where
+    none : (rows : List Arrival) → All Near rows → length (keep (λ x. same-mark m (x .mark) && eqb (x .distance) d) rows) ≡ 0
+    none [] near = refl
+    none (x ∷ xs) near =
+        cond-false-length (same-mark m (x .mark) && eqb (x .distance) d) (and-right (same-mark m (x .mark)) (eqb (x .distance) d) (ne-eqb (x .distance) d (λ e. let l = near .0 in omega arith))) (none xs (near .1))
+      where
+        cond-false-length : (t : Bool) → t ≡ false → length (keep (λ y. same-mark m (y .mark) && eqb (y .distance) d) xs) ≡ 0 →
+            length (cond t (x ∷ keep (λ y. same-mark m (y .mark) && eqb (y .distance) d) xs) (keep (λ y. same-mark m (y .mark) && eqb (y .distance) d) xs)) ≡ 0
+        cond-false-length true e rest = absurd (true≢false e)
+        cond-false-length false e rest = rest
 
 -- at most 255 chains lead down from an item to another
 pub few-item-chains : (I : Items) → Lawful I → (b o : ℕ) → sum-below 8 (λ j. length (item-chains I b o j)) ≤ 255

@@ -69,8 +69,11 @@ answer-of t rows = record {
 }
 
 -- what is checked before a question is answered
+abbrev pub question-checks : ℕ → Items → ℕ → ℕ → ℕ → List (Bool × Refusal)
+question-checks n I s o r = out-of-range n s o r ++ ((not (I .known o), ItemUnknown) ∷ [])
+
 unfoldable pub question-outcome : ℕ → Items → ℕ → ℕ → ℕ → Outcome
-question-outcome n I s o r = checks (out-of-range n s o r ++ ((not (I .known o), ItemUnknown) ∷ []))
+question-outcome n I s o r = checks (question-checks n I s o r)
 
 -- what both questions answer
 unfoldable pub asked : ℕ → Model → Items → ℕ → ℕ → ℕ → Strategy → Result Answer Refusal

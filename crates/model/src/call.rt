@@ -10,13 +10,25 @@ use strategies::strategy::Strategy;
 #[derive(Clone, Copy)]
 pub enum Call {
     /// Make `member` a member of `group`.
-    Join { group: u32, member: u32 },
+    Join {
+        group: u32,
+        member: u32,
+    },
     /// End the membership of `member` in `group`.
-    Leave { group: u32, member: u32 },
+    Leave {
+        group: u32,
+        member: u32,
+    },
     /// Put a grant behind the others.
-    Give { grant: Grant },
+    Give {
+        grant: Grant,
+    },
     /// Take back the grant for the account, the item and the right.
-    Withdraw { account: u32, item: u32, right: u32 },
+    Withdraw {
+        account: u32,
+        item: u32,
+        right: u32,
+    },
     /// May the account use the right on the item? Read off the chain counts.
     Quick {
         account: u32,
