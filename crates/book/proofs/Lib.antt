@@ -1,3 +1,4 @@
 pub mod Changed
 pub mod Memory
 pub mod Asked
+pub mod Running

@@ -2,7 +2,7 @@
 
 ghost use Prim.Native.Nat.{_<_, _≤_};
 ghost use Rattle.book.specs.Books.{accounts-of, shown};
-ghost use Rattle.model.specs.Question.{asked, question-checks};
+ghost use Rattle.model.specs.Question.{asked, least-asked, question-checks};
 ghost use Rattle.model.specs.Refusals.{checks};
 ghost use Rattle.std.specs.Vec.{made};
 ghost use mathlib.Core.Path.{_≡_};
@@ -12,7 +12,10 @@ use model::answering::answer_from;
 use model::refusal::Refusal;
 use plans::Plan;
 use quick::quick_rows;
+use strategies::marks::Sign;
 use strategies::strategy::Strategy;
+use walked::least_distance;
+use walked::walked_rows;
 
 impl Book<'_> {
     // Checks what every question checks first.
@@ -60,5 +63,57 @@ impl Book<'_> {
             right,
         );
         Ok(answer_from(&rows, strategy))
+    }
+
+    /// The same question, answered by going down the memberships level by level.
+    ///
+    /// Refused as the quick question is.
+    pub fn walked<P: Plan>(
+        &self,
+        plan: &P,
+        account: u32,
+        item: u32,
+        right: u32,
+        strategy: Strategy,
+    ) -> Result<Answer, Refusal>
+        ensures answer { λ r. ⌜ r ≡ asked (accounts-of (now (self .entry))) (shown (now (self .entry))) (P·Plan .meaning (now (plan .entry))) account item right strategy ⌝ }
+        ensures few { λ r. ⌜ made r (λ a. (a .«plus_total» ≤ 104498155008) × (a .«minus_total» ≤ 104498155008)) ⌝ }
+    {
+        self.admit(plan, account, item, right)?;
+        let rows = walked_rows(
+            &self.table,
+            self.grants.standing(),
+            plan,
+            account as usize,
+            item,
+            right,
+        );
+        Ok(answer_from(&rows, strategy))
+    }
+
+    /// The least distance of an arrival of the sign at the account, on the item, for the right; none if none arrives. Found by
+    /// going down the memberships.
+    ///
+    /// Refused as the quick question is.
+    pub fn least<P: Plan>(
+        &self,
+        plan: &P,
+        account: u32,
+        item: u32,
+        right: u32,
+        sign: Sign,
+    ) -> Result<Option<u8>, Refusal>
+        ensures { λ r. ⌜ r ≡ least-asked (accounts-of (now (self .entry))) (shown (now (self .entry))) (P·Plan .meaning (now (plan .entry))) account item right sign ⌝ }
+    {
+        self.admit(plan, account, item, right)?;
+        Ok(least_distance(
+            &self.table,
+            self.grants.standing(),
+            plan,
+            account as usize,
+            item,
+            right,
+            sign,
+        ))
     }
 }

@@ -26,6 +26,7 @@ impl Book<'_> {
         ensures circle { λ r. ⌜ Circle-exactly (accounts-of (now (self .entry))) (shown (now (self .entry)) .members) group member r ⌝ }
         ensures memory { λ _. ⌜ counts-in (now (self .exit)) ≡ table-of (accounts-of (now (self .entry))) (joined (accounts-of (now (self .entry))) (shown (now (self .entry))) group member .members) ++ drop (size (accounts-of (now (self .entry)))) (counts-in (now (self .entry))) ⌝ }
         ensures same { λ _. ⌜ (now (self .exit) .grants ≡ now (self .entry) .grants) × (accounts-of (now (self .exit)) ≡ accounts-of (now (self .entry))) ⌝ }
+        ensures behind { λ _. ⌜ drop (size (accounts-of (now (self .entry)))) (counts-in (now (self .exit))) ≡ drop (size (accounts-of (now (self .entry)))) (counts-in (now (self .entry))) ⌝ }
         ensures refused { λ r. ⌜ Unless-accepted r (now (self .exit) .table ≡ now (self .entry) .table) ⌝ }
     {
         join_in(&mut self.table, group as usize, member as usize)
@@ -39,6 +40,7 @@ impl Book<'_> {
         ensures after { λ _. ⌜ shown (now (self .exit)) ≡ left (accounts-of (now (self .entry))) (shown (now (self .entry))) group member ⌝ }
         ensures memory { λ _. ⌜ counts-in (now (self .exit)) ≡ table-of (accounts-of (now (self .entry))) (left (accounts-of (now (self .entry))) (shown (now (self .entry))) group member .members) ++ drop (size (accounts-of (now (self .entry)))) (counts-in (now (self .entry))) ⌝ }
         ensures same { λ _. ⌜ (now (self .exit) .grants ≡ now (self .entry) .grants) × (accounts-of (now (self .exit)) ≡ accounts-of (now (self .entry))) ⌝ }
+        ensures behind { λ _. ⌜ drop (size (accounts-of (now (self .entry)))) (counts-in (now (self .exit))) ≡ drop (size (accounts-of (now (self .entry)))) (counts-in (now (self .entry))) ⌝ }
         ensures refused { λ r. ⌜ Unless-accepted r (now (self .exit) .table ≡ now (self .entry) .table) ⌝ }
     {
         leave_in(&mut self.table, group as usize, member as usize)

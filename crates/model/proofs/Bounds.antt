@@ -162,7 +162,7 @@ grant-bound n E I lawful s o r g few = step (eqb (g .right) r)
     step false = omega arith
 
 -- the rows of a listing are few enough for any of their sums
-listed-few-in : (n : ℕ) (M : Model) (I : Items) → Lawful I → (s o r : ℕ) → s < n → n ≤ 64 → length (M .grants) ≤ 512 →
+pub listed-few-in : (n : ℕ) (M : Model) (I : Items) → Lawful I → (s o r : ℕ) → s < n → n ≤ 64 → length (M .grants) ≤ 512 →
     All (λ g. g .account < n) (M .grants) →
     ((a s k : ℕ) → a < n → s < n → k < 8 → count n (M .members) a s k ≤ 99999) →
     length (listing n M I s o r) ≤ 104498155008

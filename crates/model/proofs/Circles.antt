@@ -14,8 +14,10 @@ use Rattle.chains.proofs.Told.{leads-found, leads-yes}
 use Rattle.model.specs.declared.refusal.Refusal.the-variants.{UnknownAccount, Circle, MemberStands, ChainTooLong, CountTooLarge}
 use Rattle.model.specs.Refusals.{Outcome, checks}
 use Rattle.model.specs.Grants.{unknown}
-use Rattle.model.specs.Model.{join-checks}
-use Rattle.model.specs.RunLaws.{Circle-exactly}
+use Rattle.model.specs.Model.{join-checks, join-outcome, just-made}
+use Rattle.model.specs.Runs.{run}
+use Rattle.model.specs.RunLaws.{Circle-exactly, Circles-in-runs}
+use Rattle.model.proofs.Lasting.{runs-standing}
 
 -- of five checks in this order, the second is the first to fail
 second-fails : (u l x y z : Bool) →
@@ -50,3 +52,11 @@ module _ (n : ℕ) (E : Members) (w : Within n E) (short : Short E) (p c : ℕ) 
 
   pub circle-in : Circle-exactly n E p c r
   circle-in = (there, back)
+
+-- wherever a run has led
+pub circles-in-runs : Circles-in-runs
+unfolding join-outcome
+circles-in-runs n capacity calls p c =
+    let M = run n capacity just-made calls in
+    let sound = runs-standing n capacity calls .sound in
+    circle-in n (M .members) (sound .within) (sound .short) p c (join-outcome n M p c) refl

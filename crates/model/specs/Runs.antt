@@ -34,6 +34,6 @@ unfoldable pub run : ℕ → ℕ → Model → List Call → Model
 run n capacity M [] = M
 run n capacity M (c ∷ cs) = run n capacity (next n capacity M c) cs
 
-unfoldable pub replies : ℕ → ℕ → Items → Model → List Call → List Reply
-replies n capacity I M [] = []
-replies n capacity I M (c ∷ cs) = reply n capacity I M c ∷ replies n capacity I (next n capacity M c) cs
+unfoldable pub run-replies : ℕ → ℕ → Items → Model → List Call → List Reply
+run-replies n capacity I M [] = []
+run-replies n capacity I M (c ∷ cs) = reply n capacity I M c ∷ run-replies n capacity I (next n capacity M c) cs

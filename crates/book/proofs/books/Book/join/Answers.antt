@@ -1,6 +1,8 @@
 use mathlib.Core.Path.{_≡_, refl, ap, sym, _∙_}
+use Prim.Native.Nat.{ℕ}
 use denote.Ref.{now}
-use Rattle.chains.specs.Chains.{Members}
+use lib.ListN.{drop}
+use Rattle.chains.specs.Table.{size}
 use Rattle.model.specs.Model.{Model, join-outcome, joined}
 use Rattle.model.proofs.Circles.{circle-in}
 use Rattle.table.specs.Tables.{Sound-table, members-in}
@@ -27,5 +29,6 @@ returns c =
       circle = circle-in n (members-in (b .table)) (within (b .table) sound) (is-short (b .table) sound) p m (c .join-in .result) (step .answer);
       memory = laid-out t (step .sound) n (joined n (shown b) p m .members) _ (step .accounts) (ap (λ (M : Model). M .members) after) (step .memory);
       same = (refl, step .accounts);
+      behind = ap (λ (m : ℕ). drop (size m) (now (t .counts))) (sym (step .accounts)) ∙ step .memory;
       refused = step .refused;
     }

@@ -1,6 +1,8 @@
 use mathlib.Core.Path.{_≡_, refl, ap, sym, _∙_}
+use Prim.Native.Nat.{ℕ}
 use denote.Ref.{now}
-use Rattle.chains.specs.Chains.{Members}
+use lib.ListN.{drop}
+use Rattle.chains.specs.Table.{size}
 use Rattle.model.specs.Model.{Model, leave-outcome, left}
 use Rattle.table.specs.Tables.{members-in}
 use Rattle.book.specs.Books.{accounts-of, shown}
@@ -23,5 +25,6 @@ returns c =
       after = after;
       memory = laid-out t (step .sound) n (left n (shown b) p m .members) _ (step .accounts) (ap (λ (M : Model). M .members) after) (step .memory);
       same = (refl, step .accounts);
+      behind = ap (λ (m : ℕ). drop (size m) (now (t .counts))) (sym (step .accounts)) ∙ step .memory;
       refused = step .refused;
     }

@@ -1,0 +1,9 @@
+pub mod Products
+pub mod Exchange
+pub mod Taking
+pub mod Marks
+pub mod Lowest
+pub mod Lengths
+pub mod Found
+pub mod Listed
+pub mod Requires
