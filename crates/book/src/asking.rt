@@ -54,15 +54,9 @@ impl Book<'_> {
         ensures few { λ r. ⌜ made r (λ a. (a .«plus_total» ≤ 104498155008) × (a .«minus_total» ≤ 104498155008)) ⌝ }
     {
         self.admit(plan, account, item, right)?;
-        let rows = quick_rows(
-            &self.table,
-            self.grants.standing(),
-            plan,
-            account as usize,
-            item,
-            right,
-        );
-        Ok(answer_from(&rows, strategy))
+        let grants = self.grants.standing();
+        let counted = quick_rows(&self.table, grants, plan, account as usize, item, right);
+        Ok(answer_from(&counted, strategy))
     }
 
     /// The same question, answered by going down the memberships level by level.
@@ -80,15 +74,9 @@ impl Book<'_> {
         ensures few { λ r. ⌜ made r (λ a. (a .«plus_total» ≤ 104498155008) × (a .«minus_total» ≤ 104498155008)) ⌝ }
     {
         self.admit(plan, account, item, right)?;
-        let rows = walked_rows(
-            &self.table,
-            self.grants.standing(),
-            plan,
-            account as usize,
-            item,
-            right,
-        );
-        Ok(answer_from(&rows, strategy))
+        let grants = self.grants.standing();
+        let met = walked_rows(&self.table, grants, plan, account as usize, item, right);
+        Ok(answer_from(&met, strategy))
     }
 
     /// The least distance of an arrival of the sign at the account, on the item, for the right; none if none arrives. Found by
@@ -106,14 +94,8 @@ impl Book<'_> {
         ensures { λ r. ⌜ r ≡ least-asked (accounts-of (now (self .entry))) (shown (now (self .entry))) (P·Plan .meaning (now (plan .entry))) account item right sign ⌝ }
     {
         self.admit(plan, account, item, right)?;
-        Ok(least_distance(
-            &self.table,
-            self.grants.standing(),
-            plan,
-            account as usize,
-            item,
-            right,
-            sign,
-        ))
+        let grants = self.grants.standing();
+        let s = account as usize;
+        Ok(least_distance(&self.table, grants, plan, s, item, right, sign))
     }
 }

@@ -25,4 +25,4 @@ returns g c =
     let found = c .least-distance .result in
     least-accepted n (shown b) I (c .args .account) (c .args .item) (c .args .right) (c .args .sign) found (c .in-Continue-admit .ensures tt .answer)
     (subst (λ (gs : List Grant). found ≡ first n (record { members = members-in (b .table); grants = gs }) I (c .args .account) (c .args .item) (c .args .right) (c .args .sign))
-    (c .standing .ensures) (c .least-distance .ensures))
+    (c .standing-grants .ensures) (c .least-distance .ensures))

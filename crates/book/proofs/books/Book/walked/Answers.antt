@@ -30,11 +30,11 @@ returns g c =
     let b = c .args .self .now in
     let n = accounts-of b in
     let I = g .P·Plan .meaning (c .args .plan .now) in
-    let rows = c .walked-rows-rows .result in
+    let rows = c .walked-rows-met .result in
     let l : List Arrival = listing n (shown b) I (c .args .account) (c .args .item) (c .args .right) in
     let counts : Counts-of rows l =
     subst (λ (gs : List Grant). Counts-of rows (listing n (record { members = members-in (b .table); grants = gs }) I (c .args .account) (c .args .item) (c .args .right)))
-    (c .standing .ensures) (c .walked-rows-rows .ensures) in
+    (c .standing-grants .ensures) (c .walked-rows-met .ensures) in
     let most = asked-few b I (g .P·Plan·met .lawful (c .args .plan .now)) (c .args .account) (c .args .item) (c .args .right) (c .in-Continue-admit .ensures tt .known) in
     let few = c .answer-from .ensures .few l counts in
     record {
