@@ -1,5 +1,5 @@
 -- What the walk finds from the starts is what grants and accounts give. Assumes nothing.
-use mathlib.Core.Path.{_≡_, refl, sym, ap, subst, _∙_}
+use mathlib.Core.Path.{_≡_, refl, sym, ap, _∙_}
 use mathlib.Core.Logic.{_⊎_, inl, inr}
 use mathlib.Core.Bool.{Bool, true, false, cond, _&&_, not}
 use mathlib.Core.List.{List}
@@ -12,7 +12,7 @@ use Rattle.std.specs.shelf.Lists.{All}
 use Rattle.std.proofs.shelf.Tests.{cases-eq, cases-lt, cond-true, cond-false, le-leb, lt-leb}
 use Rattle.lists.specs.Lists.{sum-below}
 use Rattle.lists.proofs.Sums.{sum-zero, sum-has}
-use Rattle.chains.specs.Chains.{Members, Within, Chain, count}
+use Rattle.chains.specs.Chains.{Members, Within, count}
 use Rattle.chains.specs.Tests.{groupless}
 use Rattle.chains.proofs.Listing.{counted-is-chain, chain-is-counted}
 use Rattle.chains.proofs.Steps.{chain-top-known}
@@ -24,16 +24,16 @@ use Rattle.strategies.specs.declared.marks.Mark.{Mark}
 use Rattle.strategies.specs.declared.marks.Mark.the-variants.{Signed, Default}
 use Rattle.strategies.specs.declared.rows.Rows.{Rows}
 use Rattle.walk.specs.Counts.{limited}
-use Rattle.walk.specs.Meaning.{arrived, Arrivals-counted, Nearest}
+use Rattle.walk.specs.Meaning.{Arrivals-counted, Nearest}
 use Rattle.walk.specs.declared.least.Least.{Least}
 use Rattle.walk.proofs.RowLaws.{count-of}
 use Rattle.walk.proofs.RowMeans.{arrived-by-account}
-use Rattle.model.specs.Counted.{Lengths, of-grants, labelled-by, unmarked-by, of-accounts}
+use Rattle.model.specs.Counted.{Lengths, of-grants, unmarked-by}
 use Rattle.model.specs.declared.grant.Grant.{Grant}
 use Rattle.walked.specs.Starts.{lengths-in, started}
-use Rattle.walked.specs.Taking.{start-at, holds-at, From-grants}
-use Rattle.walked.specs.Defaults.{one-at-0, marked, gives-default, start-marked, Marked}
-use Rattle.walked.specs.Distances.{First, distance-at, Nearest-starts}
+use Rattle.walked.specs.Taking.{start-at, From-grants}
+use Rattle.walked.specs.Defaults.{one-at-0, marked, gives-default, Marked}
+use Rattle.walked.specs.Distances.{distance-at, Nearest-starts}
 use Rattle.walked.specs.Asked.{Rows-by}
 use Rattle.walked.specs.declared.starts.Starts.{Starts}
 use Rattle.walked.proofs.Exchange.{arrived-same, walked-signed, walked-default}

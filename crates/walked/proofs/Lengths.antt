@@ -7,12 +7,11 @@ use Prim.Native.Nat.{ℕ, _+_, _*_, _<_, _≤_}
 use native.Mathlib.Omega.{arith}
 use lib.Dec.{eqb, ltb}
 use lib.ListN.{length, getD, replicate, length-replicate, getD-replicate}
-use Rattle.std.specs.shelf.Lists.{All, sumBy}
+use Rattle.std.specs.shelf.Lists.{All}
 use Rattle.std.proofs.shelf.Elements.{all-weaker}
 use Rattle.std.proofs.shelf.Lists.{getD-past}
 use Rattle.std.proofs.shelf.Sums.{sumBy-cons, sumBy-le}
 use Rattle.std.proofs.shelf.Tests.{cases-lt, cond-true, cond-both, lt-ltb, ltb-true}
-use Rattle.lists.specs.Lists.{some}
 use Rattle.lists.proofs.Sums.{sum-same}
 use Rattle.lists.proofs.Kept.{sumBy-zero}
 use Rattle.chains.specs.Chains.{Members, count}
@@ -22,7 +21,7 @@ use Rattle.plans.specs.Items.{Items}
 use Rattle.plans.specs.declared.counts.ItemCounts.{ItemCounts}
 use Rattle.strategies.specs.Resolve.{same-sign}
 use Rattle.strategies.specs.declared.marks.Sign.{Sign}
-use Rattle.model.specs.Counted.{Lengths, listed-lengths, products, of-grant, of-grants, above-by, labels, labelled-by, unmarked-by, of-accounts}
+use Rattle.model.specs.Counted.{Lengths, listed-lengths, products, of-grant, of-grants, above-by, labelled-by, unmarked-by, of-accounts}
 use Rattle.model.specs.declared.grant.Grant.{Grant}
 use Rattle.model.proofs.Bounds.{all-of}
 use Rattle.walked.specs.Starts.{lengths-in, given-by, started}

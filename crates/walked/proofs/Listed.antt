@@ -15,7 +15,6 @@ use Rattle.lists.proofs.Kept.{one, kept-cons}
 use Rattle.plans.specs.Items.{Items}
 use Rattle.strategies.specs.Resolve.{least-of}
 use Rattle.strategies.specs.Rows.{Counts-of, counted, row-at, same-mark}
-use Rattle.strategies.specs.declared.marks.Sign.{Sign}
 use Rattle.strategies.specs.declared.marks.Sign.the-variants.{Plus, Minus}
 use Rattle.strategies.specs.declared.marks.Mark.{Mark}
 use Rattle.strategies.specs.declared.marks.Mark.the-variants.{Signed, Default}

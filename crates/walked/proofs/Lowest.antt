@@ -1,8 +1,8 @@
 -- The first distance of what accounts have, as grants are added. Assumes nothing.
 use mathlib.Core.Path.{_≡_, refl, sym, ap, subst, _∙_}
 use mathlib.Core.Logic.{_⊎_, inl, inr}
-use mathlib.Core.Bool.{Bool, true, false, cond, _&&_, true≢false}
-use mathlib.Core.List.{List, []}
+use mathlib.Core.Bool.{true, false, cond, _&&_, true≢false}
+use mathlib.Core.List.{List}
 use Prim.Native.Nat.{ℕ, _+_, _<_, _≤_, min}
 use native.Mathlib.Omega.{arith}
 use lib.Dec.{eqb}
@@ -19,7 +19,8 @@ use Rattle.model.specs.Counted.{Lengths}
 use Rattle.model.specs.declared.grant.Grant.{Grant}
 use Rattle.walked.specs.Starts.{lengths-in, given-by, started}
 use Rattle.walked.specs.Distances.{First, distance-at, No-distances, Lowered, Nearest-starts}
-use Rattle.walked.proofs.Taking.{given-other, given-here, started-more}
+use Rattle.walked.proofs.Taking.{given-other, given-here}
+use Rattle.walked.proofs.Filling.{started-more}
 
 same-self : (s : Sign) → same-sign s s ≡ true
 same-self Plus = refl

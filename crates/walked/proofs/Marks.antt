@@ -1,8 +1,8 @@
 -- Default marks are given account by account. Assumes nothing.
 use mathlib.Core.Path.{_≡_, refl, sym, ap, _∙_}
-use mathlib.Core.Bool.{Bool, true, false, cond, _&&_, not}
+use mathlib.Core.Bool.{Bool, true, false, _&&_, not}
 use mathlib.Core.List.{List}
-use Prim.Native.Nat.{ℕ, _+_, _<_, _≤_}
+use Prim.Native.Nat.{ℕ, _+_, _<_}
 use native.Mathlib.Omega.{arith}
 use borrow.Author.Count.{below-more}
 use lib.ListN.{getD, set, length-set}
@@ -12,7 +12,7 @@ use Rattle.chains.specs.Chains.{Members}
 use Rattle.chains.specs.Tests.{groupless}
 use Rattle.strategies.specs.declared.rows.Rows.{Rows}
 use Rattle.walk.specs.Counts.{no-rows}
-use Rattle.walked.specs.Taking.{Full, start-at, holds-at}
+use Rattle.walked.specs.Taking.{Full, start-at}
 use Rattle.walked.specs.Defaults.{marked, gives-default, start-marked, Marking}
 use Rattle.walked.specs.declared.starts.Starts.{Starts}
 

@@ -3,10 +3,9 @@ use mathlib.Core.List.{List}
 use mathlib.Core.Path.{_≡_}
 use Prim.Native.Nat.{ℕ, _<_}
 use Rattle.chains.specs.Chains.{Members}
-use Rattle.strategies.specs.Rows.{row-at, same-mark}
+use Rattle.strategies.specs.Rows.{row-at}
 use Rattle.strategies.specs.declared.marks.Sign.{Sign}
 use Rattle.strategies.specs.declared.marks.Mark.the-variants.{Signed, Default}
-use Rattle.strategies.specs.declared.marks.Arrival.{Arrival}
 use Rattle.strategies.specs.declared.rows.Rows.{Rows}
 use Rattle.table.specs.Tables.{members-in}
 use Rattle.table.specs.declared.tables.Table.{Table}

@@ -1,9 +1,8 @@
 -- The starting marks as they are filled in, grant by grant. Assumes nothing.
 use mathlib.Core.Path.{_≡_}
-use mathlib.Core.Bool.{Bool, true, false, cond, _||_, _&&_}
+use mathlib.Core.Bool.{Bool, true, false, _||_}
 use mathlib.Core.List.{List}
 use Prim.Native.Nat.{ℕ, _+_, _<_}
-use lib.Dec.{eqb}
 use lib.ListN.{length, getD, set}
 use Rattle.strategies.specs.Rows.{row-at}
 use Rattle.strategies.specs.declared.marks.Sign.{Sign}

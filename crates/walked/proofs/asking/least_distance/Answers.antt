@@ -1,4 +1,4 @@
-use mathlib.Core.Path.{_≡_, sym, subst, _∙_, fun-ext}
+use mathlib.Core.Path.{sym, subst, _∙_, fun-ext}
 use Rattle.strategies.specs.Rows.{counted}
 use Rattle.strategies.specs.declared.marks.Mark.the-variants.{Signed}
 use Rattle.model.specs.Counted.{listed-lengths}

@@ -8,7 +8,7 @@ use Rattle.model.specs.declared.grant.Grant.{Grant}
 use Rattle.strategies.specs.declared.marks.Sign.the-variants.{Plus}
 use Rattle.walked.specs.Starts.{lengths-in}
 use Rattle.walked.specs.Taking.{From-grants}
-use Rattle.walked.proofs.Taking.{from-none, from-more, from-skip}
+use Rattle.walked.proofs.Filling.{from-none, from-more, from-skip}
 use Rattle.walked.proofs.starting.grants_start.Needs as need
 use Rattle.walked.proofs.starting.grants_start.Needs.{then-grant-right, else-grant-right}
 
