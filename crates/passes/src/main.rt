@@ -14,15 +14,22 @@ use strategies::strategy::Strategy;
 
 // The accounts.
 const CONSORTIUM: u32 = 0;
+
 const MISSION: u32 = 1;
+
 const UNIVERSITY: u32 = 2;
+
 const LABORATORY: u32 = 3;
+
 const STATION: u32 = 4;
+
 const CREW_ONE: u32 = 5;
+
 const CREW_TWO: u32 = 6;
 
 // The channel, and the right to key its transmitter.
 const CHANNEL: u32 = 5;
+
 const KEYING: u32 = 4;
 
 // Who is made a member of whom.

@@ -4,8 +4,7 @@ mod Deciding
 mod Table
 mod NameNumbers
 mod SameStrategy
-mod OneMore
+pub mod OneMore
 mod SixSigns
 mod Listed
 mod Alike
-mod TextLines

@@ -3,5 +3,3 @@ pub mod Resolve
 pub mod Rows
 pub mod Names
 pub mod Six
-pub mod Lines
-pub mod Texts
