@@ -18,11 +18,16 @@ pub struct Item {
 
 // A container: none, one of the last few items, or any; sometimes an unknown one.
 fn any_container(random: &mut Random, next: u32) -> Option<u32> {
-    match random.below(8) {
-        0 | 1 => None,
-        2 | 3 | 4 => Some(next.wrapping_sub(random.below(4))),
-        _ => Some(random.below(next)),
+    if random.once_in(30) {
+        return Some(next.saturating_add(random.below(3)));
     }
+    if next == 0 || random.once_in(4) {
+        return None;
+    }
+    if random.once_in(2) {
+        return Some(random.below(next));
+    }
+    Some(next.saturating_sub(random.below(3).wrapping_add(1)))
 }
 
 fn any_added(random: &mut Random, next: u32) -> Item {
@@ -80,17 +85,18 @@ fn refusal_of(heap: Global, table: &Equipment, added: Item) -> Result<u32, Alloc
     Ok(if first.max(second) > 7 { 15 } else { 0 })
 }
 
-/// Adds items so many times, and compares every refusal. Gives what was added where all agree.
+/// Adds items so many times, until a refusal is not that of the plain rule. Yes if all agree.
 pub fn fill(
     heap: Global,
     random: &mut Random,
     table: &mut Equipment,
     times: u32,
+    items: &mut Vec<Item>,
     tally: &mut Tally,
-) -> Result<Option<Vec<Item>>, AllocError> {
-    let mut items = Vec::new(heap);
+) -> Result<bool, AllocError> {
     for _time in 0..times {
         let added = any_added(random, table.next());
+        items.push(added)?;
         let listed = refusal_of(heap, table, added)?;
         let told = match table.add(added.item, added.first, added.second) {
             Ok(()) => 0,
@@ -98,9 +104,8 @@ pub fn fill(
         };
         tally.refused(told);
         if !tally.same(u64::from(listed), u64::from(told)) {
-            return Ok(None);
+            return Ok(false);
         }
-        items.push(added)?;
     }
-    Ok(Some(items))
+    Ok(true)
 }

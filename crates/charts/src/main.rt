@@ -6,8 +6,10 @@ mod changing;
 mod comparing;
 mod deciding;
 mod filling;
+mod lending;
 mod lister;
 mod listing;
+mod matching;
 mod random;
 mod shapes;
 mod showing;
@@ -15,6 +17,9 @@ mod tally;
 mod trying;
 
 use filling::fill;
+use lending::Chart;
+use lending::lent_counts;
+use lending::lent_records;
 use lister::Lister;
 use plans::Equipment;
 use random::Random;
@@ -26,27 +31,21 @@ use std::env;
 use std::error::AnyError;
 use std::io;
 use tally::Tally;
-use trying::Chart;
-use trying::lent_counts;
-use trying::lent_records;
 use trying::try_chart;
 
 /// How many charts are tried where no argument says another number.
 const CHARTS: u32 = 3000;
 
-// Prints the calls of a chart as an access list.
-fn print_list(rt: &LibcRuntime, chart: &Chart) -> io::Result<()> {
-    println!(
-        rt,
-        "a difference in what the last of these calls gives or leaves"
-    )?;
+// Prints the items and the calls of a chart as an access list, and ends in an error.
+fn report(rt: &LibcRuntime, chart: &Chart) -> Result<(), AnyError> {
+    eprintln!(rt, "a difference at the last of these calls")?;
     for item in chart.items.iter() {
         print_item(rt, *item)?;
     }
     for call in chart.calls.iter() {
         print_call(rt, *call)?;
     }
-    Ok(())
+    Err("a difference".into())
 }
 
 // Makes a chart of the size, and tries it.
@@ -59,24 +58,23 @@ fn try_one(
 ) -> Result<(), AnyError> {
     let heap = rt.alloc();
     let mut equipment = Equipment::new();
-    let Some(items) = fill(heap, random, &mut equipment, size.items, tally)? else {
-        return Err("a difference in filling the equipment table".into());
-    };
+    let mut items = Vec::new(heap);
+    let filled = fill(heap, random, &mut equipment, size.items, &mut items, tally)?;
     let lent = lent_counts(heap, random, size.accounts)?;
-    let records = lent_records(heap, random, size.records)?;
-    let lister = Lister::new(heap, lent.len(), records.as_slice())?;
+    let rubbish = lent_records(heap, random, size.records)?;
+    let lister = Lister::new(heap, lent.len(), rubbish.as_slice())?;
     let mut chart = Chart {
         lister,
         equipment,
         items,
         lent,
+        rubbish,
         calls: Vec::new(heap),
     };
-    if try_chart(heap, &mut chart, random, size, pairs, tally)? {
+    if filled && try_chart(heap, &mut chart, random, size, pairs, tally)? {
         return Ok(());
     }
-    print_list(rt, &chart)?;
-    Err("a difference".into())
+    report(rt, &chart)
 }
 
 // Tries a chart that begins with the joins.
