@@ -34,6 +34,13 @@ impl<'a> Book<'a> {
         self.table.accounts()
     }
 
+    /// The lent counts: those of the table, and those behind it.
+    pub fn counts(&self) -> &[u32]
+        ensures { λ r. ⌜ now r ≡ counts-in (now (self .entry)) ⌝ }
+    {
+        self.table.counts()
+    }
+
     /// How many grants may stand: as many as there are records, 512 at most.
     pub fn capacity(&self) -> usize
         ensures { λ r. ⌜ r ≡ capacity-in (now (self .entry)) ⌝ }
