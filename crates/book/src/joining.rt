@@ -9,7 +9,7 @@ use model::refusal::Refusal;
 use table::Table;
 
 // Makes `c` a member of `p`, unless a check refuses it.
-pub fn join_in(table: &mut Table, p: usize, c: usize) -> Result<(), Refusal>
+pub(crate) fn join_in(table: &mut Table, p: usize, c: usize) -> Result<(), Refusal>
     requires sound { ⌜ Sound-table (now table) ⌝ }
     ensures sound { λ _. ⌜ Sound-table (now (table .exit)) ⌝ }
     ensures accounts { λ _. ⌜ now (table .exit) .accounts ≡ now (table .entry) .accounts ⌝ }
@@ -39,7 +39,7 @@ pub fn join_in(table: &mut Table, p: usize, c: usize) -> Result<(), Refusal>
 }
 
 // Ends the membership of `c` in `p`, unless a check refuses it.
-pub fn leave_in(table: &mut Table, p: usize, c: usize) -> Result<(), Refusal>
+pub(crate) fn leave_in(table: &mut Table, p: usize, c: usize) -> Result<(), Refusal>
     requires sound { ⌜ Sound-table (now table) ⌝ }
     ensures sound { λ _. ⌜ Sound-table (now (table .exit)) ⌝ }
     ensures accounts { λ _. ⌜ now (table .exit) .accounts ≡ now (table .entry) .accounts ⌝ }
