@@ -2,6 +2,7 @@ ghost use mathlib.Core.Path.{_≡_};
 ghost use Prim.Native.Nat.{ℕ, suc, _+_, _<_, _≤_};
 ghost use Rattle.plans.specs.Counts.{entry, Full, Item-counts};
 ghost use Rattle.plans.specs.Above.{Empty, Lengthened, Passed};
+ghost use Rattle.plans.specs.Laws.{Few-between-two, Few-to-an-item, Item-listing-is-exact, No-longer-chain};
 use crate::counts::ItemCounts;
 use crate::counts::any_chain;
 use crate::plan::Plan;
@@ -62,9 +63,14 @@ fn counts_to<P: Plan>(plan: &P, o: u32) -> [[u32; 8]; 256]
 
 /// How many chains of each length lead down to an item, from every item.
 ///
-/// No item is refused: to an item above 255 nothing leads.
+/// No item is refused: to an item above 255 nothing leads. The other clauses are laws of every plan: what is counted are the item
+/// chains, each once; none has more than 7 containers; and there are few, from all items together and from one.
 pub fn item_counts<P: Plan>(plan: &P, item: u32) -> ItemCounts
     ensures counted { λ r. ⌜ Item-counts (P·Plan .meaning (now (plan .entry))) item (r .counts) ⌝ }
+    ensures listed { λ _. ⌜ Item-listing-is-exact ⌝ }
+    ensures short { λ _. ⌜ No-longer-chain ⌝ }
+    ensures few { λ _. ⌜ Few-to-an-item ⌝ }
+    ensures between { λ _. ⌜ Few-between-two ⌝ }
 {
     ItemCounts {
         counts: counts_to(plan, item),

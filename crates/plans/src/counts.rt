@@ -5,6 +5,9 @@ ghost use lib.ListN.{length};
 ghost use Rattle.lists.specs.Lists.{some};
 ghost use Rattle.plans.specs.Counts.{row-at, row-read, entry};
 
+/// A number for each length, 0 to 7.
+pub type Lengths = [u32; 8];
+
 /// How many chains of each length, 0 to 7, lead from each item down to one item: a row of eight numbers for each of 256 items.
 #[derive(Drop)]
 pub struct ItemCounts {
@@ -16,7 +19,7 @@ pub struct ItemCounts {
 
 impl ItemCounts {
     /// How many chains of each length, 0 to 7, lead down from an item: none from an item above 255.
-    pub fn row(&self, b: u32) -> [u32; 8]
+    pub fn row(&self, b: u32) -> Lengths
         ensures answer { λ r. ⌜ r ≡ row-read (now (self .entry) .counts) b ⌝ }
         ensures len { λ r. ⌜ length r ≡ 8 ⌝ }
     {

@@ -3,6 +3,7 @@ ghost use Prim.Native.Nat.{_≤_};
 ghost use lib.ListN.{length};
 ghost use Rattle.plans.specs.Equipment.{Good};
 
+mod making;
 mod methods;
 
 use crate::place::Place;

@@ -4,7 +4,6 @@ mod channels;
 mod counting;
 mod counts;
 mod equipment;
-pub mod laws;
 mod place;
 mod plan;
 mod refusal;

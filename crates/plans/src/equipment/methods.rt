@@ -1,10 +1,9 @@
 ghost use mathlib.Core.Path.{_≡_};
-ghost use Prim.Native.Nat.{ℕ};
-ghost use lib.Dec.{ltb};
 ghost use Rattle.std.specs.Vec.{listOf, refused};
 ghost use Rattle.plans.specs.Items.{tallest, height-of};
 ghost use Rattle.plans.specs.Equipment.{twice};
-ghost use Rattle.plans.specs.Filling.{no-items, next-number, some-unknown, add-answer, add-after};
+ghost use Rattle.plans.specs.Laws.{Height-is-longest};
+ghost use Rattle.plans.specs.Filling.{some-unknown, add-answer, add-after};
 ghost use Rattle.plans.specs.Table.{table};
 use crate::equipment::Equipment;
 use crate::place::Place;
@@ -61,29 +60,6 @@ pub impl Plan for Equipment as EquipmentPlan {
 }
 
 impl Equipment {
-    /// A table that knows nothing.
-    pub fn new() -> Equipment
-        ensures made { λ r. ⌜ table r ≡ no-items ⌝ }
-    {
-        let blank = Place {
-            first: None,
-            second: None,
-            height: 0,
-        };
-        Equipment {
-            places: [blank; 256],
-            filled: 0,
-        }
-    }
-
-    /// The number that the next item must have: how many are known. Exactly the items below it are known.
-    pub fn next(&self) -> u32
-        ensures answer { λ r. ⌜ r ≡ next-number (table (now (self .entry))) ⌝ }
-        ensures below { λ r. ⌜ ((item : ℕ) → table (now (self .entry)) .known item ≡ ltb item r) ⌝ }
-    {
-        self.filled
-    }
-
     // Is this container, where there is one, not known?
     fn lacks(&self, container: Option<u32>) -> bool
         ensures answer { λ r. ⌜ r ≡ some-unknown (table (now (self .entry))) (listOf container) ⌝ }
@@ -117,6 +93,7 @@ impl Equipment {
         ensures answer { λ r. ⌜ r ≡ add-answer (table (now (self .entry))) item first second ⌝ }
         ensures after { λ _. ⌜ table (now (self .exit)) ≡ add-after (table (now (self .entry))) item first second ⌝ }
         ensures same { λ r. ⌜ refused r (λ _. now (self .exit) ≡ now (self .entry)) ⌝ }
+        ensures height { λ _. ⌜ Height-is-longest ⌝ }
     {
         if item != self.filled || item == PLACES {
             return Err(EquipmentRefusal::NotNext);

@@ -16,6 +16,7 @@ use Rattle.plans.specs.Filling.{some-unknown, behind}
 use Rattle.plans.specs.Table.{table}
 use Rattle.plans.proofs.Filled.{answer-not-next, answer-bad, answer-high, answer-ok, unknown-both, tallest-both, or-first, or-second, or-third, or-none, neither}
 use Rattle.plans.proofs.Added.{good-added, table-added}
+use Rattle.plans.proofs.LongestRuns.{longest}
 use Rattle.plans.proofs.equipment.Equipment.add.Needs as need
 use Rattle.plans.proofs.equipment.Equipment.add.Needs.{then-lacks·by·then-lacks, then-lacks·by·else-lacks·then-lacks-2, then-lacks·by·else-lacks·else-lacks-2·then-same}
 
@@ -28,7 +29,7 @@ returns-then-item-self c =
     let e = c .args .self .now in
     let answered = answer-not-next (e .places) (e .filled) (c .args .item) (c .args .first) (c .args .second) (e .within)
     (⊎-elim (λ n. grind (arith, tells)) (λ n. grind (arith, tells)) (c .then-item-self .either)) in
-    record { answer = answered; after = same-behind (table e) (c .args .item) (both (c .args .first) (c .args .second)) _ _ answered; same = refl }
+    record { answer = answered; after = same-behind (table e) (c .args .item) (both (c .args .first) (c .args .second)) _ _ answered; same = refl; height = longest }
 
 pub returns-then-lacks : need.returns-then-lacks
 returns-then-lacks c =
@@ -45,7 +46,7 @@ returns-then-lacks c =
       | then-lacks·by·else-lacks·else-lacks-2·then-same w ↦
           or-third a b t (w .if-lacks .ensures tt .answer) (w .if-lacks-2 .ensures tt .answer) (w .if-same .ensures tt .answer)
     ]) in
-    record { answer = answered; after = same-behind (table e) (c .args .item) (both (c .args .first) (c .args .second)) _ _ answered; same = refl }
+    record { answer = answered; after = same-behind (table e) (c .args .item) (both (c .args .first) (c .args .second)) _ _ answered; same = refl; height = longest }
 
 pub returns-then-height-gt-HIGHEST : need.returns-then-height-gt-HIGHEST
 returns-then-height-gt-HIGHEST c =
@@ -57,7 +58,7 @@ returns-then-height-gt-HIGHEST c =
     let answered = answer-high (e .places) (e .filled) (c .args .item) (c .args .first) (c .args .second) (e .within) (c .if-item-self .left) room
     (or-none (some-unknown M (listOf (c .args .first))) (some-unknown M (listOf (c .args .second))) (twice (c .args .first) (c .args .second))
     (c .if-lacks .ensures tt .answer) (c .if-lacks-2 .ensures tt .answer) (c .if-same .ensures tt .answer)) high in
-    record { answer = answered; after = same-behind M (c .args .item) (both (c .args .first) (c .args .second)) _ _ answered; same = refl }
+    record { answer = answered; after = same-behind M (c .args .item) (both (c .args .first) (c .args .second)) _ _ answered; same = refl; height = longest }
 
 pub ghost-self : need.ghost-self
 ghost-self c =
@@ -97,4 +98,5 @@ returns c =
       after = table-added (e .places) (e .filled) (c .args .item) (c .args .first) (c .args .second) (c .max-height .result) (e .size) (c .if-item-self .left) room
           ∙ same-behind M (c .args .item) (both (c .args .first) (c .args .second)) _ _ answered;
       same = tt;
+      height = longest;
     }
