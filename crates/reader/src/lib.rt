@@ -4,7 +4,6 @@ mod commands;
 pub mod faults;
 pub mod field;
 pub mod fields;
-pub mod laws;
 pub mod line;
 pub mod list;
 pub mod numbers;

@@ -80,15 +80,15 @@ fn ask(
 // The number of the strategy `P-`.
 const PREFER_MINUS: u32 = 1;
 
-/// The strategy `P-`, which holds until a line chooses another.
-pub fn prefer_minus() -> Strategy
+// The strategy `P-`, which holds until a line chooses another.
+pub(crate) fn prefer_minus() -> Strategy
     ensures { λ r. ⌜ r ≡ prefer-minus ⌝ }
 {
     Strategy::numbered(PREFER_MINUS).unwrap()
 }
 
-/// Makes the call that a line says, on a book of 32 accounts with room for 512 grants.
-pub fn act(
+// Makes the call that a line says, on a book of 32 accounts with room for 512 grants.
+pub(crate) fn act(
     book: &mut Book,
     equipment: &mut Equipment,
     strategy: &mut Strategy,
