@@ -1,6 +1,6 @@
 -- The table of a set of memberships, place by place. Assumes nothing.
 use Rattle.std.proofs.Common.{◌≡◌, ℕ, zero, suc, ◌+◌, ◌-◌, ◌*◌, ◌/◌, ◌%◌, ◌<◌, ◌≤◌, ◌⊎◌, List, [], ◌∷◌, ◌++◌, length, get_or, take, drop, sym, refl, ap, ◌∙◌, inl, inr, append_assoc, append-nil, not-suc-le-zero, mod-lt, mul_assoc, div-lt_iff_lt-mul, div-add-mod', arith}
-use Rattle.std.proofs.lemmas.List.{get_or_append_left, get_or_append_right, get_or_default, get_or-drop, get_or-map, get_or-take, length-append, length-drop, length-map, length-take-le, same_lists}
+use Rattle.std.proofs.lemmas.List.{get_or_append_left, get_or-append_right, get_or_default, get_or-drop, get_or-map, get_or-take, length-append, length-drop, length-map, length-take-le, same_lists}
 use Rattle.std.proofs.lemmas.Nat.{mul-add-lt}
 use Rattle.std.proofs.lemmas.Bool.{cases_eq}
 use Rattle.lists.specs.Lists.{below, join_all}
@@ -20,7 +20,7 @@ get_or_below (suc n) k l = split (cases_eq k n) (λ (l' : k < n). get_or_below n
     split (inl e) before =
         let long = length_below n in
         let none : k - n ≡ 0 = omega arith in
-        get_or_append_right (below n) (n ∷ []) n k 0 long (omega arith) ∙ ap (λ (x : ℕ). get_or (n ∷ []) x 0) none ∙ sym e
+        get_or-append_right (below n) (n ∷ []) n k 0 long (omega arith) ∙ ap (λ (x : ℕ). get_or (n ∷ []) x 0) none ∙ sym e
     split (inr d) before =
         let long = length_below n in
         get_or_append_left (below n) (n ∷ []) 0 k (omega arith) ∙ before (omega arith)
@@ -56,7 +56,7 @@ module _ (f : ℕ → List ℕ) (b : ℕ) where
       split (inl e) before =
           let same : i * b ≡ n * b = ap (λ (x : ℕ). x * b) e in
           let left : (i * b + j) - n * b ≡ j = omega arith in
-          get_or_append_right (join_all f (below n)) (f n) (n * b) (i * b + j) 0 long (omega arith)
+          get_or-append_right (join_all f (below n)) (f n) (n * b) (i * b + j) 0 long (omega arith)
           ∙ ap (λ (x : ℕ). get_or (f n) x 0) left
           ∙ ap (λ (x : ℕ). get_or (f x) j 0) (sym e)
       split (inr d) before =

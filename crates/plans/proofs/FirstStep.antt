@@ -1,7 +1,7 @@
 -- Item chains counted by their first step, from the top. Assumes nothing.
 use Rattle.std.proofs.Common.{◌≡◌, ℕ, zero, suc, ◌+◌, ◌*◌, ◌<◌, ◌≤◌, cond, eqb, List, [], ◌∷◌, length, drop, sum_by, sym, refl, ap, ◌∙◌, ap₂, one-mul, mul-zero, zero-mul, arith}
 use Rattle.std.specs.List.{AllByRecursion as All}
-use Rattle.std.proofs.ByRecursion.{AllWeaker, All-drop}
+use Rattle.std.proofs.ByRecursion.{All-weaker, All-drop}
 use Rattle.std.proofs.lemmas.List.Sums.{sum_by-cons}
 use Rattle.std.proofs.lemmas.Bool.{eq-eqb, ne_eqb, cond-false}
 use Rattle.lists.specs.Lists.{sum_below}
@@ -28,7 +28,7 @@ module _ (M : Items) (lawful : Lawful M) where
       chains_step M b o (suc k)
       ∙ sum_by_same_on (λ c. length (item_chains M b c (suc k))) (λ c. sum_below n (λ i. length (item_chains M i c k) * times b (M.containers i)))
       (M.containers o)
-      (AllWeaker (λ c. c < o) (λ c. length (item_chains M b c (suc k)) ≡ sum_below n (λ i. length (item_chains M i c k) * times b (M.containers i)))
+      (All-weaker (λ c. c < o) (λ c. length (item_chains M b c (suc k)) ≡ sum_below n (λ i. length (item_chains M i c k) * times b (M.containers i)))
       (λ c u. first_step k b c n (omega arith)) (M.containers o) (lawful.lower o))
       ∙ sum_by_swap n (λ c i. length (item_chains M i c k) * times b (M.containers i)) (M.containers o)
       ∙ sum_same n (λ i. sum_by (λ c. length (item_chains M i c k) * times b (M.containers i)) (M.containers o))
@@ -54,7 +54,7 @@ none_ahead M lawful o x b k l =
     sum_zero x (λ i. length (item_chains M i o k) * times b (M.containers i))
     (λ i u.
     ap (λ z. length (item_chains M i o k) * z)
-    (times_none b (M.containers i) (AllWeaker (λ c. c < i) (λ c. c < b) (λ c v. omega arith) (M.containers i) (lawful.lower i)))
+    (times_none b (M.containers i) (All-weaker (λ c. c < i) (λ c. c < b) (λ c v. omega arith) (M.containers i) (lawful.lower i)))
     ∙ mul-zero (length (item_chains M i o k)))
 
 pub none_left : (M : Items) → Lawful M → (x n : ℕ) → times x (drop n (M.containers x)) ≡ 0

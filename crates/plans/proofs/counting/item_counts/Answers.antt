@@ -36,4 +36,4 @@ invariant-of-items g c = (
 )
 
 pub returns : goal.returns
-returns g c = record { counted = c.count-to.ensures.counted; listed = exact; short = short; few = few; between = between }
+returns g c = record { counted = c.count_to.ensures.counted; listed = exact; short = short; few = few; between = between }

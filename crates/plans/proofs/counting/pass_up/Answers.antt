@@ -4,7 +4,7 @@ use Rattle.plans.specs.Above.{Passing, Reached}
 use Rattle.plans.proofs.PassUp.{passing_start, passing_end, passing_fits, passing_more, passed_over, lower, not_past}
 use Rattle.plans.proofs.Reaching.{reached_more}
 use Rattle.plans.proofs.counting.pass_up.Goals as goal
-use Rattle.plans.proofs.counting.pass_up.Goals.{in-Some, in-default}
+use Rattle.plans.proofs.counting.pass_up.Goals.{in-Some, in_default}
 
 pub loop-place-init : goal.loop-place-init
 loop-place-init g c = (
@@ -43,7 +43,7 @@ loop-place-preserved g c =
           subst (λ (r : List Bool). Full c.match-container.counts × Passing M c.args.o c.args.item (c.loop-place.place + 1) (entry c.match-container.counts) × Reached r (entry c.match-container.counts)) (sym w.reached-is)
           (subst (λ (t : List (List ℕ)). Full t × Passing M c.args.o c.args.item (c.loop-place.place + 1) (entry t) × Reached (set c.loop-place.reached w.in-Some.container true) (entry t)) (sym w.counts-is)
           (w.lengthen.ensures.full, more, noted))
-      | in-default w ↦ absurd (not_past M c.args.item c.loop-place.place within w.in-default.ensures.answer)
+      | in_default w ↦ absurd (not_past M c.args.item c.loop-place.place within w.in_default.ensures.answer)
     ]
 
 pub returns : goal.returns
