@@ -2,25 +2,25 @@ use Rattle.std.proofs.Common.{ℕ, ◌+◌, List, sym, refl, ap, subst, arith}
 use Rattle.chains.specs.Table.{entry}
 use Rattle.counts.proofs.Lines.{Upto, later, up_is, still_low, line_allowed, line_done, line_skipped}
 use Rattle.counts.proofs.changing.change_all.Goals as goal
-use Rattle.counts.proofs.changing.change_all.Goals.{then-leads-by, else-leads-by}
+use Rattle.counts.proofs.changing.change_all.Goals.{then-leads_by, else-leads_by}
 
-pub change-line-requires : goal.change-line-requires
-change-line-requires c =
-    let t = c.args.counts.now in let u = c.loop-a.counts in let up = c.row-at-up.result in
+pub change_line-requires : goal.change_line-requires
+change_line-requires c =
+    let t = c.args.counts.now in let u = c.loop-a.counts in let up = c.row_at-up.result in
     let ch = c.args.change in let n = c.args.n in let p = c.args.p in let m = c.args.c in let a = c.loop-a.a in
-    let upto = c.loop-a.invariant in let e = c.row-at-up.ensures in
-    let some = c.if-leads-by.ensures.yes refl in
+    let upto = c.loop-a.invariant in let e = c.row_at-up.ensures in
+    let some = c.if-leads_by.ensures.yes refl in
     record {
       table = record { few = omega arith; fits = omega arith };
       top = omega arith;
       member = c.requires.member;
       apart = λ same.
           let at_a = later ch t u n p m a upto a p some.0 (omega arith) in
-          let none = c.requires.no-circle some.0 some.2 in
+          let none = c.requires.no_circle some.0 some.2 in
           omega (arith, some.3, at_a, none, ap (λ b. entry t n b p some.0) same);
-      up-low = λ i h. omega (arith, up_is ch t u n p m a upto up e i h, c.requires.low a p i (omega arith) c.requires.group h);
+      up_low = λ i h. omega (arith, up_is ch t u n p m a upto up e i h, c.requires.low a p i (omega arith) c.requires.group h);
       low = still_low ch t u n p m a upto c.requires.low c.requires.allowed;
-      allowed = line_allowed ch t u n p m a upto up e c.requires.no-circle (omega arith) c.requires.allowed;
+      allowed = line_allowed ch t u n p m a upto up e c.requires.no_circle (omega arith) c.requires.allowed;
     }
 
 pub loop-a-preserved : goal.loop-a-preserved
@@ -29,9 +29,9 @@ loop-a-preserved c =
     let ch = c.args.change in let n = c.args.n in let p = c.args.p in let m = c.args.c in let a = c.loop-a.a in
     let upto = c.loop-a.invariant in
     let P : List ℕ → Type 0 = λ w. Upto ch t w n p m (a + 1) in
-    elim c.if-leads-by.branch [
-      | then-leads-by w ↦ subst P (sym w.counts-is)
-          (line_done ch t u n p m a upto w.change-line.new.counts w.row-at-up.result w.row-at-up.ensures c.requires.no-circle w.change-line.ensures.sums w.change-line.ensures.before w.change-line.ensures.behind)
-      | else-leads-by w ↦ subst P (sym w.counts-is)
-          (line_skipped ch t u n p m a upto c.requires.no-circle (λ k h. w.if-leads-by.ensures.no refl k (omega arith) h))
+    elim c.if-leads_by.branch [
+      | then-leads_by w ↦ subst P (sym w.counts-is)
+          (line_done ch t u n p m a upto w.change_line.new.counts w.row_at-up.result w.row_at-up.ensures c.requires.no_circle w.change_line.ensures.sums w.change_line.ensures.before w.change_line.ensures.behind)
+      | else-leads_by w ↦ subst P (sym w.counts-is)
+          (line_skipped ch t u n p m a upto c.requires.no_circle (λ k h. w.if-leads_by.ensures.no refl k (omega arith) h))
     ]

@@ -2,18 +2,18 @@ use Rattle.std.proofs.Common.{ℕ, ◌+◌, ◌<◌, List, sym, refl, subst, ari
 use Rattle.chains.proofs.Places.{row_below}
 use Rattle.counts.proofs.Along.{Along, down_is, row_allowed, row_done, row_skipped}
 use Rattle.counts.proofs.changing.change_line.Goals as goal
-use Rattle.counts.proofs.changing.change_line.Goals.{then-leads-by, else-leads-by}
+use Rattle.counts.proofs.changing.change_line.Goals.{then-leads_by, else-leads_by}
 
-pub change-row-requires : goal.change-row-requires
-change-row-requires c =
+pub change_row-requires : goal.change_row-requires
+change_row-requires c =
     let t = c.args.counts.now in let u = c.loop-s.counts in let up = c.args.up.now in let ch = c.args.change in
     let n = c.args.n in let a = c.args.a in let m = c.args.c in let s = c.loop-s.s in
     let lt : s < n = omega arith in let along = c.loop-s.invariant in
-    let down = c.row-at-down.result in let e = c.row-at-down.ensures in
+    let down = c.row_at-down.result in let e = c.row_at-down.ensures in
     record {
       fits = omega (arith, row_below n a s c.requires.top lt);
-      up-low = c.requires.up-low;
-      down-low = λ i h. omega (arith, down_is ch t u up n a m s along c.requires.apart lt down e i h, c.requires.low m s i c.requires.member lt h);
+      up_low = c.requires.up_low;
+      down_low = λ i h. omega (arith, down_is ch t u up n a m s along c.requires.apart lt down e i h, c.requires.low m s i c.requires.member lt h);
       allowed = row_allowed ch t u up n a m s along c.requires.apart lt down e (λ k h. c.requires.allowed s k lt h);
     }
 
@@ -23,10 +23,10 @@ loop-s-preserved c =
     let n = c.args.n in let a = c.args.a in let m = c.args.c in let s = c.loop-s.s in
     let lt : s < n = omega arith in let along = c.loop-s.invariant in
     let P : List ℕ → Type 0 = λ v. Along ch t v up n a m (s + 1) in
-    elim c.if-leads-by.branch [
-      | then-leads-by w ↦ subst P (sym w.counts-is)
-          (row_done ch t u up n a m s along c.requires.apart lt w.change-row.new.counts w.row-at-down.result w.row-at-down.ensures
-          w.change-row.ensures.sums w.change-row.ensures.before w.change-row.ensures.behind)
-      | else-leads-by w ↦ subst P (sym w.counts-is)
-          (row_skipped ch t u up n a m s along c.requires.apart lt (λ k h. w.if-leads-by.ensures.no refl k (omega arith) h))
+    elim c.if-leads_by.branch [
+      | then-leads_by w ↦ subst P (sym w.counts-is)
+          (row_done ch t u up n a m s along c.requires.apart lt w.change_row.new.counts w.row_at-down.result w.row_at-down.ensures
+          w.change_row.ensures.sums w.change_row.ensures.before w.change_row.ensures.behind)
+      | else-leads_by w ↦ subst P (sym w.counts-is)
+          (row_skipped ch t u up n a m s along c.requires.apart lt (λ k h. w.if-leads_by.ensures.no refl k (omega arith) h))
     ]

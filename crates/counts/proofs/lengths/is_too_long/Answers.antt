@@ -21,17 +21,17 @@ at_most f n r above a k ha hk pos =
 pub returns : goal.returns
 returns c =
     let t = c.args.counts.now in let n = c.args.n in let p = c.args.p in let m = c.args.c in
-    let from = c.longest-from.result in let longest = c.longest-from.ensures in
+    let from = c.longest_from.result in let longest = c.longest_from.ensures in
     let down : ℕ → ℕ → ℕ = entry t n m in
     record {
       yes = λ e.
-          let u = c.reached-by.ensures.yes e in
+          let u = c.reached_by.ensures.yes e in
           let d = witness down n m from c.requires.member (c.requires.own_val m c.requires.member) longest.some in
           record { top = u.0; end = d.0; above = u.1; below = from; top_in = u.2; end_in = d.1; above_in = u.4; below_in = longest.bound; up = u.5; down = d.2; over = omega (arith, u.3) };
       no = λ e a s i j ha hs hi hj pu pd.
           let low : j ≤ from = at_most down n from longest.above s j hs hj pd in
           elim (cases_lt i (7 - from)) [
             | inl short ↦ omega arith
-            | inr long ↦ let none = c.reached-by.ensures.no e a ha i long hi in omega arith
+            | inr long ↦ let none = c.reached_by.ensures.no e a ha i long hi in omega arith
           ];
     }

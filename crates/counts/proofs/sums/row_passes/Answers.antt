@@ -13,7 +13,7 @@ loop-k-init c =
     omega (arith, c.requires.low j (omega arith))
 
 pub loop-k-preserved : goal.loop-k-preserved
-loop-k-preserved c = below_more _ _ c.loop-k.invariant (omega (arith, c.through-at.ensures.sum))
+loop-k-preserved c = below_more _ _ c.loop-k.invariant (omega (arith, c.through_at.ensures.sum))
 
 pub returns : goal.returns
 returns c = record { yes = λ e. absurd (true≢false (sym e)); no = λ _ k h. c.loop-k.invariant k (omega arith) }

@@ -9,18 +9,18 @@ use Rattle.counts.proofs.sums.through_at.Goals as goal
 -- one product is small enough
 product : (c : goal.After-sum-in-loop-i·1) →
     at_of c.args.up.now c.loop-i.i * at_of c.args.down.now (c.args.k - 1 - c.loop-i.i) ≤ 9999800001
-product c = mul-le _ _ 99999 99999 (c.requires.up-low c.loop-i.i (omega arith)) (c.requires.down-low (c.args.k - 1 - c.loop-i.i) (omega arith))
+product c = mul-le _ _ 99999 99999 (c.requires.up_low c.loop-i.i (omega arith)) (c.requires.down_low (c.args.k - 1 - c.loop-i.i) (omega arith))
 
 pub loop-i-init : goal.loop-i-init
 loop-i-init c = (refl, omega arith)
 
-pub overflow-mul-sum : goal.overflow-mul-sum
-overflow-mul-sum c =
+pub overflow_mul-sum : goal.overflow_mul-sum
+overflow_mul-sum c =
     Fits-below {n = 9999800001} tt
-    (mul-le _ _ 99999 99999 (c.requires.up-low c.loop-i.i (omega arith)) (c.requires.down-low (c.args.k - 1 - c.loop-i.i) (omega arith)))
+    (mul-le _ _ 99999 99999 (c.requires.up_low c.loop-i.i (omega arith)) (c.requires.down_low (c.args.k - 1 - c.loop-i.i) (omega arith)))
 
-pub overflow-add-sum : goal.overflow-add-sum
-overflow-add-sum c = omega (arith, product c)
+pub overflow_add-sum : goal.overflow_add-sum
+overflow_add-sum c = omega (arith, product c)
 
 pub loop-i-preserved : goal.loop-i-preserved
 loop-i-preserved c = (

@@ -2,17 +2,17 @@ use Rattle.std.proofs.Common.{◌<◌, ◌≤◌, get_or, arith, rules}
 use Rattle.fields.proofs.Values.{digit_step, digit_low, digit_high, digits_end, small, ten_more}
 use Rattle.fields.proofs.reading.digits.Goals as goal
 
-pub overflow-mul-value : goal.overflow-mul-value
-overflow-mul-value c = omega (arith, small c.loop-d.value c.loop-d.d-index)
+pub overflow_mul-value : goal.overflow_mul-value
+overflow_mul-value c = omega (arith, small c.loop-d.value c.loop-d.d-index)
 
-pub overflow-add-value : goal.overflow-add-value
-overflow-add-value c = omega (arith, small c.loop-d.value c.loop-d.d-index)
+pub overflow_add-value : goal.overflow_add-value
+overflow_add-value c = omega (arith, small c.loop-d.value c.loop-d.d-index)
 
-pub returns-in-default : goal.returns-in-default
-returns-in-default c = search (rules, digit_low)
+pub returns-in_default : goal.returns-in_default
+returns-in_default c = search (rules, digit_low)
 
-pub returns-in-default·2 : goal.returns-in-default·2
-returns-in-default·2 c = search (rules, digit_high)
+pub returns-in_default·2 : goal.returns-in_default·2
+returns-in_default·2 c = search (rules, digit_high)
 
 pub loop-d-preserved : goal.loop-d-preserved
 loop-d-preserved c =

@@ -5,8 +5,8 @@ use Rattle.fields.proofs.reading.trim_blanks.Goals as goal
 pub loop-left-preserved : goal.loop-left-preserved
 loop-left-preserved c = search (rules, blank_step)
 
-pub returns-in-default : goal.returns-in-default
-returns-in-default c = search (rules, blank_end)
+pub returns-in_default : goal.returns-in_default
+returns-in_default c = search (rules, blank_end)
 
-pub returns-in-default·2 : goal.returns-in-default·2
-returns-in-default·2 c = search (rules, blank_stop)
+pub returns-in_default·2 : goal.returns-in_default·2
+returns-in_default·2 c = search (rules, blank_stop)

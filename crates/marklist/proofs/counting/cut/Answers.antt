@@ -7,9 +7,9 @@ use Rattle.marklist.proofs.counting.cut.Goals as goal
 pub returns : goal.returns
 returns c =
     let text : List ℕ = c.args.text.now in
-    let len : ℕ = c.line-len-len.result in
+    let len : ℕ = c.line_len-len.result in
     let to : ℕ = c.min-behind.result in
-    let told = c.line-len-len.ensures in
+    let told = c.line_len-len.ensures in
     let whole : len ≡ len - 0 = omega arith in
     record {
       lines =

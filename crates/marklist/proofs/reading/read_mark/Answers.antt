@@ -10,11 +10,11 @@ line_parts (c ∷ rest) h = ap (behind_mark (letter_mark c)) (take_rest (c ∷ r
 
 pub returns : goal.returns
 returns c =
-    let mark : letter_mark (get_or c.args.line.now 0 0) ≡ Some c.in-ok-mark.mark = sym c.mark-with.ensures ∙ c.in-ok-mark.ensures.ok-part in
+    let mark : letter_mark (get_or c.args.line.now 0 0) ≡ Some c.in_ok-mark.mark = sym c.mark_with.ensures ∙ c.in_ok-mark.ensures.ok_part in
     record {
       value =
-          c.read-distance.ensures.value
+          c.read_distance.ensures.value
           ∙ ap (λ m. behind_mark m (take (length c.args.line.now - 1) (drop 1 c.args.line.now))) (sym mark)
           ∙ line_parts c.args.line.now (search rules);
-      within = c.read-distance.ensures.within;
+      within = c.read_distance.ensures.within;
     }

@@ -14,8 +14,8 @@ loop-item-init g c = (
   reached_first c.args.counts.now c.requires c.args.o c.if-o-ge256.false,
 )
 
-pub pass-up-requires : goal.pass-up-requires
-pass-up-requires g c =
+pub pass_up-requires : goal.pass_up-requires
+pass_up-requires g c =
     let M = g.P.Plan.meaning c.args.plan.now in
     let back : c.loop-item.item ≡ (c.loop-item.item - 1) + 1 = omega arith in
     record {

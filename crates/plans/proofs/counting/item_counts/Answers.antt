@@ -23,13 +23,13 @@ few M lawful o = (λ items k. chains_few_together M lawful items k o, λ items l
 between : FewBetweenTwo
 between M lawful b o = (λ k. chains_few M lawful k b o, λ lengths. own_lengths_few M lawful lengths b o)
 
-pub invariant-of-items : goal.invariant-of-items
-invariant-of-items g c = (
-  c.count-to.ensures.full.rows,
+pub invariant_of-items : goal.invariant_of-items
+invariant_of-items g c = (
+  c.count_to.ensures.full.rows,
   (
-    c.count-to.ensures.full.wide,
+    c.count_to.ensures.full.wide,
     (
-      counts_few (g.P.Plan.meaning c.args.plan.now) (g.met.P.Plan.lawful c.args.plan.now) _ c.count-to.new.counts c.count-to.ensures.counted,
+      counts_few (g.P.Plan.meaning c.args.plan.now) (g.met.P.Plan.lawful c.args.plan.now) _ c.count_to.new.counts c.count_to.ensures.counted,
       tt,
     ),
   ),

@@ -2,8 +2,8 @@ use Rattle.std.proofs.Common.{arith}
 use Rattle.plans.proofs.Longer.{longer_none, longer_all, longer_more, sum_read}
 use Rattle.plans.proofs.counting.lengthen.Goals as goal
 
-pub overflow-add-counts-in-loop-k : goal.overflow-add-counts-in-loop-k
-overflow-add-counts-in-loop-k c =
+pub overflow_add-counts-in-loop-k : goal.overflow_add-counts-in-loop-k
+overflow_add-counts-in-loop-k c =
     let sum = sum_read c.args.from c.args.to c.loop-k.k c.args.counts.now c.loop-k.counts c.requires.room.1.0 c.requires.room.1.1
     c.loop-k-test.true c.loop-k.invariant in
     let few = c.requires.fits c.loop-k.k c.loop-k-test.true in

@@ -4,7 +4,7 @@ use Rattle.std.proofs.lemmas.List.{get_or_read}
 use Rattle.chains.specs.Table.{shown_members}
 use Rattle.walk.proofs.Totals.{total_more, total_idle}
 use Rattle.walk.proofs.walking.level_below.Goals as goal
-use Rattle.walk.proofs.walking.level_below.Goals.{then-not-is-nothing, else-not-is-nothing}
+use Rattle.walk.proofs.walking.level_below.Goals.{then-not-is_nothing, else-not-is_nothing}
 
 pub loop-g-init : goal.loop-g-init
 loop-g-init g c = (refl, λ x h. get_or-replicate 64 x c.nothing-below.result g.W.Weight.nothing (omega (arith, c.requires.few)) ∙ c.nothing-below.ensures)
@@ -18,11 +18,11 @@ loop-g-preserved g c =
     let level = c.args.level.now in
     let first = c.index-level-g.result in
     let f : ℕ → g.row.W.Denot = λ y. w.stepped (get_or level y w.nothing) in
-    let within : at < length level = omega (arith, c.type-inv.level, c.requires.few) in
-    elim c.if-not-is-nothing.branch [
-      | then-not-is-nothing v ↦
-          let again = v.index-level-g-then-not-is-nothing.result in
-          let is = v.index-level-g-then-not-is-nothing.is in
+    let within : at < length level = omega (arith, c.type_inv.level, c.requires.few) in
+    elim c.if-not-is_nothing.branch [
+      | then-not-is_nothing v ↦
+          let again = v.index-level-g-then-not-is_nothing.result in
+          let is = v.index-level-g-then-not-is_nothing.is in
           let stepped : v.step-next.result ≡ f at = v.step-next.ensures ∙ ap w.stepped (sym is ∙ get_or_read level at again within is w.nothing) in (
             ap length v.below-is ∙ v.spread.ensures.all,
             λ x h.
@@ -32,9 +32,9 @@ loop-g-preserved g c =
                 ∙ ap (λ z. cond (p at) (w.plus _ z) _) stepped
                 ∙ sym (total_more laws f p at (p at) refl),
           )
-      | else-not-is-nothing v ↦
+      | else-not-is_nothing v ↦
           let idle : f at ≡ w.nothing =
-          ap w.stepped (sym (get_or_read level at first within c.index-level-g.is w.nothing) ∙ c.index-level-g.is ∙ v.if-not-is-nothing.ensures refl) ∙ laws.keeps in (
+          ap w.stepped (sym (get_or_read level at first within c.index-level-g.is w.nothing) ∙ c.index-level-g.is ∙ v.if-not-is_nothing.ensures refl) ∙ laws.keeps in (
             ap length v.below-is ∙ c.loop-g.invariant.0,
             λ x h.
                 ap (λ r. get_or r x w.nothing) v.below-is ∙ c.loop-g.invariant.1 x h

@@ -31,34 +31,34 @@ loop-k-preserved g c =
     let start : ℕ → g.row.W.Denot = λ y. get_or c.args.start.now y w.nothing in
     let one : (ℕ → g.row.W.Denot) → ℕ → g.row.W.Denot = down w.nothing w.plus w.stepped n E in
     let row : ℕ → g.row.W.Denot = λ y. get_or c.loop-k.level y w.nothing in
-    let next = c.level-below-level.result in
-    let k = c.loop-k.-k in
+    let next = c.level_below-level.result in
+    let k = c.loop-k._k in
     let right : (x : ℕ) → x < n → get_or next x w.nothing ≡ times one (suc k) start x =
-    λ x h. c.level-below-level.ensures.each x h ∙ down_same laws n E row (times one k start) x c.loop-k.invariant.1 in
+    λ x h. c.level_below-level.ensures.each x h ∙ down_same laws n E row (times one k start) x c.loop-k.invariant.1 in
     let upto : ℕ → g.row.W.Denot = λ j. total w.nothing w.plus (map (λ i. times one i start s) (below j)) in
-    let within : s < length next = omega (arith, c.requires.holds.few, c.level-below-level.ensures.all) in
+    let within : s < length next = omega (arith, c.requires.holds.few, c.level_below-level.ensures.all) in
     let here = c.index-level-s-in-loop-k.result in
     let read : get_or next s here ≡ times one (suc k) start s =
     sym c.index-level-s-in-loop-k.is ∙ get_or_read next s here within c.index-level-s-in-loop-k.is w.nothing ∙ right s c.requires.known in
     let more : upto (suc (suc k)) ≡ w.plus (upto (suc k)) (times one (suc k) start s) = levels_more laws n E start s (suc k) in (
-      c.level-below-level.ensures.all,
+      c.level_below-level.ensures.all,
       λ x h. right x h ∙ ap (λ j. times one j start x) (sym (add-one k)),
       c.plus-sum.ensures ∙ ap (λ z. w.plus z (get_or next s here)) c.loop-k.invariant.2 ∙ ap (w.plus (upto (suc k))) read
           ∙ sym more ∙ ap (λ j. upto (suc j)) (sym (add-one k)),
     )
 
-pub returns-then-is-empty : goal.returns-then-is-empty
-returns-then-is-empty g c =
+pub returns-then-is_empty : goal.returns-then-is_empty
+returns-then-is_empty g c =
     let w = g.W.Weight in
     let n = c.args.accounts in
     let s = c.args.s in
     let laws = g.met.W.Weight.lawful in
     let E = shown_members n c.args.counts.now in
     let start : ℕ → g.row.W.Denot = λ y. get_or c.args.start.now y w.nothing in
-    let k = c.loop-k.-k in
+    let k = c.loop-k._k in
     walked n E s laws (shown_within n c.args.counts.now) c.requires.known start c.loop-k.sum
     (c.loop-k.invariant.2
-    ∙ sym (levels_stop laws n E start s k c.requires.known (λ x h. sym (c.loop-k.invariant.1 x h) ∙ c.is-empty.ensures c.if-is-empty.true x h) 7 (omega arith))
+    ∙ sym (levels_stop laws n E start s k c.requires.known (λ x h. sym (c.loop-k.invariant.1 x h) ∙ c.is_empty.ensures c.if-is_empty.true x h) 7 (omega arith))
     ∙ levels_are laws n E start s c.requires.known)
 
 pub returns : goal.returns
@@ -70,7 +70,7 @@ returns g c =
     let E = shown_members n c.args.counts.now in
     let start : ℕ → g.row.W.Denot = λ y. get_or c.args.start.now y w.nothing in
     let one : (ℕ → g.row.W.Denot) → ℕ → g.row.W.Denot = down w.nothing w.plus w.stepped n E in
-    let end : c.loop-k.-k ≡ 7 = omega arith in
+    let end : c.loop-k._k ≡ 7 = omega arith in
     walked n E s laws (shown_within n c.args.counts.now) c.requires.known start c.loop-k.sum
     (c.loop-k.invariant.2
     ∙ ap (λ k. total w.nothing w.plus (map (λ j. times one j start s) (below (suc k)))) end

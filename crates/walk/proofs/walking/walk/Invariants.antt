@@ -10,5 +10,5 @@ abbrev pub invariant-loop-k : goal.invariant-loop-k
 invariant-loop-k g l =
     let w = g.W.Weight in
     let on : ℕ → ℕ → g.row.W.Denot = λ k. times (down w.nothing w.plus w.stepped l.accounts (shown_members l.accounts l.counts)) k (λ y. get_or l.start y w.nothing) in
-    (length l.level ≡ 64) × ((x : ℕ) → x < l.accounts → get_or l.level x w.nothing ≡ on l.-k x)
-    × (l.sum ≡ total w.nothing w.plus (map (λ k. on k l.s) (below (suc l.-k))))
+    (length l.level ≡ 64) × ((x : ℕ) → x < l.accounts → get_or l.level x w.nothing ≡ on l._k x)
+    × (l.sum ≡ total w.nothing w.plus (map (λ k. on k l.s) (below (suc l._k))))

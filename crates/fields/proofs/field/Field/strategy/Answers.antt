@@ -7,14 +7,14 @@ use Rattle.fields.proofs.field.Field.strategy.Goals as goal
 pub returns-in-Ok : goal.returns-in-Ok
 returns-in-Ok c =
     let told = c.in-Ok.ensures in
-    let behind = c.trim-blanks.ensures.value in
+    let behind = c.trim_blanks.ensures.value in
     let both = named_field c.args.self.bytes.now c.in-Ok.strategy _ (told.found ∙ behind) (λ t e. told.back t (e ∙ sym behind)) in
     record { answer = both.0; named = both.1 }
 
 pub returns-in-Err : goal.returns-in-Err
 returns-in-Err c =
     let told = c.in-Err.ensures in
-    let behind = c.trim-blanks.ensures.value in
+    let behind = c.trim_blanks.ensures.value in
     let both =
     nameless_field c.args.self.bytes.now (fault_of (Name (record {})) c.args.self.column)
     (λ k l e. told.found k l (e ∙ sym behind)) in

@@ -52,8 +52,8 @@ returns-then-height-gt-HIGHEST c =
     c.if-lacks.ensures.answer c.if-lacks-2.ensures.answer c.if-same.ensures.answer) high in
     record { answer = answered; after = same_behind M c.args.item (both c.args.first c.args.second) _ _ answered; same = refl; height = longest }
 
-pub invariant-of-self : goal.invariant-of-self
-invariant-of-self c =
+pub invariant_of-self : goal.invariant_of-self
+invariant_of-self c =
     let e = c.args.self.now in
     let M = table e in
     let within = e.within in
