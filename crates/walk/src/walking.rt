@@ -1,5 +1,5 @@
 // The walk: from every account down the memberships, level by level.
-ghost use Rattle.std.specs.Prelude.{◌≡◌, ℕ, ◌<◌, ◌≤◌, true, length, get_or, if◌then◌else◌, slice_index_or};
+ghost use Rattle.std.specs.Prelude.{◌≡◌, ℕ, ◌<◌, ◌≤◌, true, length, get_or, if◌then◌else◌};
 ghost use Rattle.chains.specs.Table.{Holds, shown_members};
 ghost use Rattle.walk.specs.Walked.{Walked};
 ghost use Rattle.walk.specs.Levels.{down};
@@ -36,7 +36,7 @@ fn spread<W: Weight + Copy>(
     requires known { group < accounts }
     requires all { length below.old ≡ 64 }
     ensures all { length below.new ≡ 64 }
-    ensures each { (m : ℕ) → m < accounts → slice_index_or below.new m nothing ≡ (if shown_members accounts counts.now group m then plus (slice_index_or below.old m nothing) weight.now else slice_index_or below.old m nothing) }
+    ensures each { (m : ℕ) → m < accounts → get_or below.new m W.nothing ≡ (if shown_members accounts counts.now group m then W.plus (get_or below.old m W.nothing) weight.now else get_or below.old m W.nothing) }
 {
     for m in 0..accounts {
         if has(counts, accounts, group, m) {
@@ -53,7 +53,7 @@ fn level_below<W: Weight + Copy>(
 ) -> [W; MOST_ACCOUNTS]
     requires { Holds accounts counts.now }
     ensures all { length result ≡ 64 }
-    ensures each { (m : ℕ) → m < accounts → slice_index_or result m nothing ≡ down nothing plus stepped accounts (shown_members accounts counts.now) (λ g. get_or level.now g nothing) m }
+    ensures each { (m : ℕ) → m < accounts → get_or result m W.nothing ≡ down W.nothing W.plus W.stepped accounts (shown_members accounts counts.now) (λ g. get_or level.now g W.nothing) m }
 {
     let mut below = [W::nothing(); MOST_ACCOUNTS];
     for g in 0..accounts {
@@ -68,7 +68,7 @@ fn level_below<W: Weight + Copy>(
 // Whether no account has anything to carry on.
 fn is_empty<W: Weight + Copy>(accounts: usize, level: &[W; MOST_ACCOUNTS]) -> bool
     requires { accounts ≤ 64 }
-    ensures { result ≡ true → (m : ℕ) → m < accounts → slice_index_or level.now m nothing ≡ nothing }
+    ensures { result ≡ true → (m : ℕ) → m < accounts → get_or level.now m W.nothing ≡ W.nothing }
 {
     for m in 0..accounts {
         if !level[m].is_nothing() {
@@ -89,7 +89,7 @@ pub fn walk<W: Weight + Copy>(
 ) -> W
     requires holds { Holds accounts counts.now }
     requires known { s < accounts }
-    ensures { Walked nothing plus stepped accounts (shown_members accounts counts.now) (λ a. get_or start.now a nothing) s result }
+    ensures { Walked W.nothing W.plus W.stepped accounts (shown_members accounts counts.now) (λ a. get_or start.now a W.nothing) s result }
 {
     let mut level = *start;
     let mut sum = level[s];

@@ -26,7 +26,7 @@ returns c =
     record {
       yes = λ e.
           let u = c.reached_by.ensures.yes e in
-          let d = witness down n m from c.requires.member (c.requires.own_val m c.requires.member) longest.some in
+          let d = witness down n m from c.requires.member (c.requires.own m c.requires.member) longest.some in
           record { top = u.0; end = d.0; above = u.1; below = from; top_in = u.2; end_in = d.1; above_in = u.4; below_in = longest.bound; up = u.5; down = d.2; over = omega (arith, u.3) };
       no = λ e a s i j ha hs hi hj pu pd.
           let low : j ≤ from = at_most down n from longest.above s j hs hj pd in

@@ -7,7 +7,7 @@ use Rattle.lists.proofs.Sums.{sum_more}
 use Rattle.counts.proofs.sums.through_at.Goals as goal
 
 -- one product is small enough
-product : (c : goal.After-sum-in-loop-i·1) →
+product : (c : goal.After-sum-in-loop-i-1) →
     at_of c.args.up.now c.loop-i.i * at_of c.args.down.now (c.args.k - 1 - c.loop-i.i) ≤ 9999800001
 product c = mul-le _ _ 99999 99999 (c.requires.up_low c.loop-i.i (omega arith)) (c.requires.down_low (c.args.k - 1 - c.loop-i.i) (omega arith))
 

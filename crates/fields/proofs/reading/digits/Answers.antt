@@ -11,8 +11,8 @@ overflow_add-value c = omega (arith, small c.loop-d.value c.loop-d.d-index)
 pub returns-in_default : goal.returns-in_default
 returns-in_default c = search (rules, digit_low)
 
-pub returns-in_default·2 : goal.returns-in_default·2
-returns-in_default·2 c = search (rules, digit_high)
+pub returns-in_default-2 : goal.returns-in_default-2
+returns-in_default-2 c = search (rules, digit_high)
 
 pub loop-d-preserved : goal.loop-d-preserved
 loop-d-preserved c =

@@ -8,5 +8,5 @@ loop-left-preserved c = search (rules, blank_step)
 pub returns-in_default : goal.returns-in_default
 returns-in_default c = search (rules, blank_end)
 
-pub returns-in_default·2 : goal.returns-in_default·2
-returns-in_default·2 c = search (rules, blank_stop)
+pub returns-in_default-2 : goal.returns-in_default-2
+returns-in_default-2 c = search (rules, blank_stop)

@@ -9,5 +9,5 @@ returns-in-len1-up c = record { answer = search (rules, line_parts); spelling = 
 pub returns-in-default : goal.returns-in-default
 returns-in-default c = record { answer = search rules; spelling = one_spelling }
 
-pub returns-in-default·2 : goal.returns-in-default·2
-returns-in-default·2 c = record { answer = search (rules, not_18); spelling = one_spelling }
+pub returns-in-default-2 : goal.returns-in-default-2
+returns-in-default-2 c = record { answer = search (rules, not_18); spelling = one_spelling }

@@ -24,16 +24,11 @@ between : FewBetweenTwo
 between M lawful b o = (λ k. chains_few M lawful k b o, λ lengths. own_lengths_few M lawful lengths b o)
 
 pub invariant_of-items : goal.invariant_of-items
-invariant_of-items g c = (
-  c.count_to.ensures.full.rows,
-  (
-    c.count_to.ensures.full.wide,
-    (
-      counts_few (g.P.Plan.meaning c.args.plan.now) (g.met.P.Plan.lawful c.args.plan.now) _ c.count_to.new.counts c.count_to.ensures.counted,
-      tt,
-    ),
-  ),
-)
+invariant_of-items g c = record {
+  rows = c.count_to.ensures.full.rows;
+  wide = c.count_to.ensures.full.wide;
+  few = counts_few (g.P.Plan.meaning c.args.plan.now) (g.met.P.Plan.lawful c.args.plan.now) _ c.count_to.new.counts c.count_to.ensures.counted;
+}
 
 pub returns : goal.returns
 returns g c = record { counted = c.count_to.ensures.counted; listed = exact; short = short; few = few; between = between }

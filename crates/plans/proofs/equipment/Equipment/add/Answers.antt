@@ -63,17 +63,13 @@ invariant_of-self c =
     ∙ neither (some_unknown M (option_to_list c.args.first)) (some_unknown M (option_to_list c.args.second))
     c.if-lacks.ensures.answer c.if-lacks-2.ensures.answer in
     let high : c.max-height.result ≡ tallest (height_of M) (both c.args.first c.args.second) =
-    let t = tallest_both (height_of M) c.args.first c.args.second in omega arith in (
-      simp length-set e.size,
-      (
-        omega arith,
-        (
-          good_added e.places e.filled c.args.item c.args.first c.args.second c.max-height.result e.size c.if-item-self.false room
-              e.good known (sym c.if-same.ensures.answer) high (omega arith),
-          tt,
-        ),
-      ),
-    )
+    let t = tallest_both (height_of M) c.args.first c.args.second in omega arith in
+    record {
+      size = simp length-set e.size;
+      within = omega arith;
+      good = good_added e.places e.filled c.args.item c.args.first c.args.second c.max-height.result e.size c.if-item-self.false room
+          e.good known (sym c.if-same.ensures.answer) high (omega arith);
+    }
 
 pub returns : goal.returns
 returns c =
