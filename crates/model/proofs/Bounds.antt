@@ -1,7 +1,7 @@
 -- No row of a listing is far, and there are not too many. Assumes nothing.
 use Rattle.std.proofs.Common.{◌≡◌, ℕ, zero, suc, ◌+◌, ◌<◌, ◌≤◌, Bool, true, false, cond, ◌&&◌, ◌||◌, eqb, ltb, List, [], ◌∷◌, ◌++◌, map, length, sum_by, sym, refl, ap, ◌∙◌, true≢false, arith, length-append}
 use Rattle.std.specs.List.{AllByRecursion as All}
-use Rattle.std.proofs.ByRecursion.{All-append, AllWeaker, sum_by_le}
+use Rattle.std.proofs.ByRecursion.{All-append, All-weaker, sum_by_le}
 use Rattle.std.proofs.lemmas.Bool.{and_right, ltb-false, ltb-true, ne_eqb, not-false, or_parts}
 use Rattle.lists.specs.Lists.{below, join_all, keep, some, sum_below}
 use Rattle.lists.proofs.Sums.{sum_bound}
@@ -36,7 +36,7 @@ pub all_below : (n : ℕ) → All (λ k. k < n) (below n)
 all_below zero = tt
 all_below (suc n) =
     All-append (λ k. k < suc n) (below n) (n ∷ [])
-    (AllWeaker (λ k. k < n) (λ k. k < suc n) (λ k l. omega arith) (below n) (all_below n)) (omega arith, tt)
+    (All-weaker (λ k. k < n) (λ k. k < suc n) (λ k l. omega arith) (below n) (all_below n)) (omega arith, tt)
 
 abbrev pub Near : Arrival → Type 0
 Near row = row.distance < 15
@@ -45,7 +45,7 @@ chains_near : (n : ℕ) (E : Members) (a s : ℕ) (m : Mark) (more : ℕ) → mo
 unfolding over_chains
 chains_near n E a s m more short =
     all_joined Near (λ k. map (λ path. record { mark = m; distance = k + more }) (chains n E a s k)) (below 8)
-    (AllWeaker (λ k. k < 8) (λ k. All Near (map (λ (path : List ℕ). record { mark = m; distance = k + more }) (chains n E a s k)))
+    (All-weaker (λ k. k < 8) (λ k. All Near (map (λ (path : List ℕ). record { mark = m; distance = k + more }) (chains n E a s k)))
     (λ k l. all_same Near (record { mark = m; distance = k + more }) (omega arith) (chains n E a s k)) (below 8) (all_below 8))
 
 grant_near : (n : ℕ) (E : Members) (I : Items) (s o r : ℕ) (g : Grant) → All Near (grant_arrivals n E I s o r g)
@@ -58,7 +58,7 @@ grant_near n E I s o r g = step (eqb g.right r)
     step : (t : Bool) → All Near (cond t (join_all each (below 8)) [])
     step true =
         all_joined Near each (below 8)
-        (AllWeaker (λ j. j < 8) (λ j. All Near (each j))
+        (All-weaker (λ j. j < 8) (λ j. All Near (each j))
         (λ j l. all_joined Near (λ (path : List ℕ). over_chains n E g.account s (Signed g.sign) j) (item_chains I g.item o j)
         (all_of (λ path. All Near (over_chains n E g.account s (Signed g.sign) j))
         (λ path. chains_near n E g.account s (Signed g.sign) j l) (item_chains I g.item o j)))
@@ -113,7 +113,7 @@ listed_few_in n M I lawful s o r known small room held few =
     let both = length-append (join_all (grant_arrivals n M.members I s o r) M.grants) (default_marks n M I s o r) in
     let grants = length_joined (grant_arrivals n M.members I s o r) M.grants in
     let grants-most = sum_by_le (λ g. length (grant_arrivals n M.members I s o r g)) 203997960 M.grants
-    (AllWeaker (λ g. g.account < n) (λ g. length (grant_arrivals n M.members I s o r g) ≤ 203997960)
+    (All-weaker (λ g. g.account < n) (λ g. length (grant_arrivals n M.members I s o r g) ≤ 203997960)
     (λ g l. grant_bound n M.members I lawful s o r g (λ k b. few g.account s k l known b)) M.grants held) in
     let marks : length (default_marks n M I s o r) ≡ sum_below n (λ a. cond (unmarked n M I o r a) (length (over_chains n M.members a s Default 0)) 0) = length_joined (λ a. over_chains n M.members a s Default 0) (keep (unmarked n M I o r) (below n))
     ∙ sum_by_kept (λ a. length (over_chains n M.members a s Default 0)) (unmarked n M I o r) (below n)

@@ -11,8 +11,8 @@ use Rattle.chains.proofs.Shows.{shown_is}
 use Rattle.chains.proofs.Told.{many_none}
 use Rattle.table.proofs.tables.Table.add.Goals as goal
 
-pub change-all-requires : goal.change-all-requires
-change-all-requires c =
+pub change_all-requires : goal.change_all-requires
+change_all-requires c =
     let t = c.args.self.now in let sound = c.requires.sound in let n = t.accounts in
     let p = c.args.p in let m = c.args.c in
     record {
@@ -20,7 +20,7 @@ change-all-requires c =
       group = search rules;
       member = search rules;
       low = is_low t sound;
-      no-circle = free_counts t sound m p c.requires.member c.requires.group (free_chain t sound m p c.requires.free);
+      no_circle = free_counts t sound m p c.requires.member c.requires.group (free_chain t sound m p c.requires.free);
       allowed = λ a s k ha hs hk.
           let same = count_then t sound p m c.requires.group c.requires.member c.requires.free c.requires.new a s k ha hs hk in
           let low = many_none n (add (members_in t) p m) c.requires.few a s k ha hs hk in
@@ -35,18 +35,18 @@ returns c =
     let w = add_within n (members_in t) p m c.requires.group c.requires.member (within t sound) in
     record {
       sound = sound_with _ F (search rules) w (λ a s k ha hs hk.
-          c.change-all.ensures.sums a s k ha hs hk
+          c.change_all.ensures.sums a s k ha hs hk
           ∙ count_then t sound p m c.requires.group c.requires.member c.requires.free c.requires.new a s k ha hs hk) c.requires.short c.requires.few
           (length-set t.groups m (get_or t.groups m 0 + 1) ∙ sound.groups.0) (number_added t sound p m c.requires.group c.requires.member c.requires.new);
       same = refl;
-      after = shown_is t.accounts F c.change-all.new.counts w (λ a s k ha hs hk.
-          c.change-all.ensures.sums a s k ha hs hk
+      after = shown_is t.accounts F c.change_all.new.counts w (λ a s k ha hs hk.
+          c.change_all.ensures.sums a s k ha hs hk
           ∙ count_then t sound p m c.requires.group c.requires.member c.requires.free c.requires.new a s k ha hs hk);
-      memory = behind_same _ _ _ (search rules) c.change-all.ensures.behind;
+      memory = behind_same _ _ _ (search rules) c.change_all.ensures.behind;
     }
 
 -- an account is a member of 64 groups at most
-pub overflow-add-self : goal.overflow-add-self
-overflow-add-self c =
+pub overflow_add-self : goal.overflow_add-self
+overflow_add-self c =
     let few = number_few c.args.self.now c.requires.sound c.args.p c.args.c c.requires.group c.requires.member in
     Fits-below {n = 65} tt (omega arith)

@@ -7,15 +7,15 @@ use Rattle.table.specs.Tables.{members_in}
 use Rattle.table.proofs.Sound.{at, is_short, within}
 use Rattle.table.proofs.tables.Table.leads.Goals as goal
 
-answer : (c : goal.After-leads-by) → c.leads-by.result ≡ leads c.args.self.now.accounts (members_in c.args.self.now) c.args.a c.args.s
+answer : (c : goal.After-leads_by) → c.leads_by.result ≡ leads c.args.self.now.accounts (members_in c.args.self.now) c.args.a c.args.s
 answer c =
     let t = c.args.self.now in let n = t.accounts in let a = c.args.a in let s = c.args.s in
     let E = members_in t in let sound = c.requires.sound in
-    same_test c.leads-by.result (leads n E a s)
+    same_test c.leads_by.result (leads n E a s)
     (λ e.
-    let some = c.leads-by.ensures.yes e in
+    let some = c.leads_by.ensures.yes e in
     leads_yes n E a s some.0 some.2 (omega (arith, some.3, at t sound a s some.0 c.requires.top c.requires.end some.2)))
-    (λ e. leads_no n E a s (λ k h. sym (at t sound a s k c.requires.top c.requires.end h) ∙ c.leads-by.ensures.no e k (omega arith) h))
+    (λ e. leads_no n E a s (λ k h. sym (at t sound a s k c.requires.top c.requires.end h) ∙ c.leads_by.ensures.no e k (omega arith) h))
 
 pub returns : goal.returns
 returns c =

@@ -5,4 +5,4 @@ use Rattle.table.proofs.tables.Table.stands.Goals as goal
 pub returns : goal.returns
 returns c =
     let t = c.args.self.now in
-    ap (ltb 0) c.count-at.ensures ∙ sym (shown_known t.accounts t.counts.now c.args.group c.args.member c.requires.group c.requires.member)
+    ap (ltb 0) c.count_at.ensures ∙ sym (shown_known t.accounts t.counts.now c.args.group c.args.member c.requires.group c.requires.member)

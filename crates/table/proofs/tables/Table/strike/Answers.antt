@@ -8,8 +8,8 @@ use Rattle.chains.proofs.Laid.{behind_same}
 use Rattle.chains.proofs.Shows.{shown_is}
 use Rattle.table.proofs.tables.Table.strike.Goals as goal
 
-pub change-all-requires : goal.change-all-requires
-change-all-requires c =
+pub change_all-requires : goal.change_all-requires
+change_all-requires c =
     let t = c.args.self.now in let sound = c.requires.sound in
     let p = c.args.p in let m = c.args.c in
     record {
@@ -17,7 +17,7 @@ change-all-requires c =
       group = search rules;
       member = search rules;
       low = is_low t sound;
-      no-circle = free_counts t sound m p c.requires.member c.requires.group (back_free t sound p m c.requires.group c.requires.member c.requires.stands);
+      no_circle = free_counts t sound m p c.requires.member c.requires.group (back_free t sound p m c.requires.group c.requires.member c.requires.stands);
       allowed = λ a s k ha hs hk.
           let left = count_left t sound p m c.requires.group c.requires.member c.requires.stands a s k ha hs hk in
           omega arith;
@@ -32,17 +32,17 @@ returns c =
     let w = left_within t sound p m hp hm stands in
     record {
       sound = sound_with _ F (search rules) w (λ a s k ha hs hk.
-          let sum = c.change-all.ensures.sums a s k ha hs hk in
+          let sum = c.change_all.ensures.sums a s k ha hs hk in
           let left = count_left t sound p m hp hm stands a s k ha hs hk in
           omega arith) (left_short t sound p m hp hm stands) (left_few t sound p m hp hm stands)
           (length-set t.groups m (get_or t.groups m 0 - 1) ∙ sound.groups.0) (number_struck t sound p m hp hm stands);
       same = refl;
-      after = shown_is t.accounts F c.change-all.new.counts w (λ a s k ha hs hk.
-          let sum = c.change-all.ensures.sums a s k ha hs hk in
+      after = shown_is t.accounts F c.change_all.new.counts w (λ a s k ha hs hk.
+          let sum = c.change_all.ensures.sums a s k ha hs hk in
           let left = count_left t sound p m hp hm stands a s k ha hs hk in
           omega arith);
-      memory = behind_same _ _ _ (search rules) c.change-all.ensures.behind;
+      memory = behind_same _ _ _ (search rules) c.change_all.ensures.behind;
     }
 
-pub overflow-sub-self : goal.overflow-sub-self
-overflow-sub-self c = number_some c.args.self.now c.requires.sound c.args.p c.args.c c.requires.group c.requires.member c.requires.stands
+pub overflow_sub-self : goal.overflow_sub-self
+overflow_sub-self c = number_some c.args.self.now c.requires.sound c.args.p c.args.c c.requires.group c.requires.member c.requires.stands

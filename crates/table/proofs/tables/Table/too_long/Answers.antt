@@ -3,8 +3,8 @@ use Rattle.table.proofs.Joins.{long_test}
 use Rattle.table.proofs.Sound.{own}
 use Rattle.table.proofs.tables.Table.too_long.Goals as goal
 
-pub is-too-long-requires : goal.is-too-long-requires
-is-too-long-requires c =
+pub is_too_long-requires : goal.is_too_long-requires
+is_too_long-requires c =
     record {
       table = search rules;
       group = search rules;
@@ -15,4 +15,4 @@ is-too-long-requires c =
 pub returns : goal.returns
 returns c =
     long_test c.args.self.now c.requires.sound c.args.p c.args.c c.requires.group c.requires.member c.requires.free
-    c.is-too-long.result c.is-too-long.ensures.yes c.is-too-long.ensures.no
+    c.is_too_long.result c.is_too_long.ensures.yes c.is_too_long.ensures.no
