@@ -1,7 +1,7 @@
 -- The counts of a listing, from what is read of the tables. Assumes nothing.
 use Rattle.std.proofs.Common.{◌≡◌, ℕ, ◌+◌, ◌*◌, ◌<◌, ◌≤◌, Bool, true, false, cond, not, ◌&&◌, ◌||◌, eqb, ltb, ◌⊎◌, List, [], ◌∷◌, length, get_or, sum_by, sym, refl, ap, ◌∙◌, ap₂, inl, inr, arith}
 use Rattle.std.specs.List.{AllByRecursion as All}
-use Rattle.std.proofs.ByRecursion.{AllWeaker}
+use Rattle.std.proofs.ByRecursion.{All-weaker}
 use Rattle.std.proofs.lemmas.List.{get_or_past}
 use Rattle.std.proofs.lemmas.List.Sums.{sum_by-cons}
 use Rattle.std.proofs.lemmas.Bool.{cases_lt}
@@ -50,14 +50,14 @@ module _ (L K : Lengths) (same : (b j : ℕ) → b < 256 → L b j ≡ K b j) wh
   unfolding above_by
   above_same b l =
       some_on (λ k. ltb 0 (L b k)) (λ k. ltb 0 (K b k)) (below 8)
-      (AllWeaker (λ k. k < 8) (λ k. ltb 0 (L b k) ≡ ltb 0 (K b k)) (λ k u. ap (λ x. ltb 0 x) (same b k l)) (below 8) (all_below 8))
+      (All-weaker (λ k. k < 8) (λ k. ltb 0 (L b k) ≡ ltb 0 (K b k)) (λ k u. ap (λ x. ltb 0 x) (same b k l)) (below 8) (all_below 8))
 
   module _ (n : ℕ) (E : Members) (grants : List Grant) (known : All (λ g. g.item < 256) grants) (s r : ℕ) where
     pub of_grants_same : (sign : Sign) (d : ℕ) → of_grants n E grants L s r sign d ≡ of_grants n E grants K s r sign d
     unfolding of_grants of_grant
     of_grants_same sign d =
         sum_by_same_on (of_grant n E L s r sign d) (of_grant n E K s r sign d) grants
-        (AllWeaker (λ g. g.item < 256) (λ g. of_grant n E L s r sign d g ≡ of_grant n E K s r sign d g)
+        (All-weaker (λ g. g.item < 256) (λ g. of_grant n E L s r sign d g ≡ of_grant n E K s r sign d g)
         (λ g l. ap (λ x. cond (eqb g.right r && same_sign sign g.sign) x 0) (products_same (count n E g.account s) g.item d l))
         grants known)
 
@@ -66,7 +66,7 @@ module _ (L K : Lengths) (same : (b j : ℕ) → b < 256 → L b j ≡ K b j) wh
     unmarked_same a =
         ap (λ t. groupless n E a && not t)
         (some_on (labels L r a) (labels K r a) grants
-        (AllWeaker (λ g. g.item < 256) (λ g. labels L r a g ≡ labels K r a g)
+        (All-weaker (λ g. g.item < 256) (λ g. labels L r a g ≡ labels K r a g)
         (λ g l. ap (λ t. eqb g.account a && (eqb g.right r && t)) (above_same g.item l)) grants known))
 
     pub of_accounts_same : (d : ℕ) → of_accounts n E grants L s r d ≡ of_accounts n E grants K s r d

@@ -3,7 +3,7 @@ use Rattle.std.proofs.Common.{◌≡◌, ℕ, ◌+◌, ◌*◌, ◌<◌, ◌≤�
 use mathlib.Core.Path.{fun_ext}
 use lib.ListN.{length-replicate, get_or-replicate}
 use Rattle.std.specs.List.{AllByRecursion as All}
-use Rattle.std.proofs.ByRecursion.{AllWeaker, sum_by_le}
+use Rattle.std.proofs.ByRecursion.{All-weaker, sum_by_le}
 use Rattle.std.proofs.lemmas.List.{get_or_past}
 use Rattle.std.proofs.lemmas.List.Sums.{sum_by-cons}
 use Rattle.std.proofs.lemmas.Bool.{cases_lt, cond-true, cond_both, lt-ltb, ltb-true}
@@ -64,7 +64,7 @@ Agree L K grants = All (λ g. (k : ℕ) → L g.item k ≡ K g.item k) grants
 pub read_listed : (I : Items) (o : ℕ) (x : ItemCounts) → CountsItems I o x.counts → (grants : List Grant) → All (λ g. g.item < 256) grants →
     Agree (lengths_in x.counts) (listed_lengths I o) grants
 read_listed I o x counts grants small =
-    AllWeaker (λ g. g.item < 256) (λ g. (k : ℕ) → lengths_in x.counts g.item k ≡ listed_lengths I o g.item k)
+    All-weaker (λ g. g.item < 256) (λ g. (k : ℕ) → lengths_in x.counts g.item k ≡ listed_lengths I o g.item k)
     (λ g l k. ap (λ row. get_or row k 0) (cond-true (ltb g.item 256) (row_at x.counts g.item) (replicate 8 0) (lt-ltb g.item 256 l)) ∙ counts g.item k l)
     grants small
 

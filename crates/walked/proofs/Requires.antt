@@ -1,6 +1,6 @@
 -- What a sound table and grants that fit give to the calls below. Assumes nothing.
 use Rattle.std.proofs.Common.{◌≡◌, ℕ, ◌<◌, ◌≤◌, false, List, length, sym, subst, arith}
-use Rattle.std.proofs.ByRecursion.{AllWeaker}
+use Rattle.std.proofs.ByRecursion.{All-weaker}
 use Rattle.lists.specs.Lists.{some}
 use Rattle.chains.specs.Table.{Holds, shown_members}
 use Rattle.chains.proofs.Told.{many_none}
@@ -19,7 +19,7 @@ module _ (t : Table) (sound : SoundTable t) where
   pub in_range : (grants : List Grant) → some (misfit t.accounts) grants ≡ false → InRange grants
   in_range grants fitting =
       let few = sound.fits.0 in
-      AllWeaker (λ g. g.account < t.accounts) (λ g. g.account < 64) (λ g l. omega arith) grants (fit_accounts t.accounts grants fitting)
+      All-weaker (λ g. g.account < t.accounts) (λ g. g.account < 64) (λ g l. omega arith) grants (fit_accounts t.accounts grants fitting)
 
   -- the accounts and counts that the table tells of
   pub told_holds : (n : ℕ) (cs : List ℕ) → n ≡ t.accounts → cs ≡ t.counts.now → Holds n cs

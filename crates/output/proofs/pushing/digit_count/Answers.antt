@@ -2,8 +2,8 @@ use Rattle.std.proofs.Common.{arith}
 use Rattle.output.proofs.Digits.{one_more_digit, one_digit, few_digits}
 use Rattle.output.proofs.pushing.digit_count.Goals as goal
 
-pub overflow-add-count : goal.overflow-add-count
-overflow-add-count c = omega (arith, few_digits c.args.n (omega arith))
+pub overflow_add-count : goal.overflow_add-count
+overflow_add-count c = omega (arith, few_digits c.args.n (omega arith))
 
 pub loop-left-preserved : goal.loop-left-preserved
 loop-left-preserved c =

@@ -5,4 +5,4 @@ pub loop-i-init : goal.loop-i-init
 loop-i-init c = none_pushed _
 
 pub loop-i-preserved : goal.loop-i-preserved
-loop-i-preserved c = blank_pushed c.loop-i.i _ _ _ c.loop-i.invariant c.in-ok-push.ensures.items
+loop-i-preserved c = blank_pushed c.loop-i.i _ _ _ c.loop-i.invariant c.in_ok-push.ensures.items

@@ -7,5 +7,5 @@ use Rattle.output.proofs.pushing.push_line.Goals as goal
 pub returns : goal.returns
 returns c =
     let came = outcome_bytes c.args.outcome in
-    let behind = two_pushed came (10 ∷ []) _ _ _ c.in-ok-push-outcome.ensures.after c.in-ok-push.ensures.items in
-    record { after = two_pushed (spelled 5 c.args.number) (came ++ (10 ∷ [])) _ _ _ c.in-ok-push-number.ensures.after behind }
+    let behind = two_pushed came (10 ∷ []) _ _ _ c.in_ok-push_outcome.ensures.after c.in_ok-push.ensures.items in
+    record { after = two_pushed (spelled 5 c.args.number) (came ++ (10 ∷ [])) _ _ _ c.in_ok-push_number.ensures.after behind }

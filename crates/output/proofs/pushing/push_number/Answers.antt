@@ -4,5 +4,5 @@ use Rattle.output.proofs.pushing.push_number.Goals as goal
 
 pub returns : goal.returns
 returns c =
-    let few = c.saturating-sub.ensures ∙ ap (λ k. c.args.width - k) c.digit-count.ensures.answer in
-    record { after = number_pushed c.args.width c.args.n _ _ _ _ c.push-digits.result few c.in-ok-push-blanks.ensures.after c.push-digits.ensures.after }
+    let few = c.saturating_sub.ensures ∙ ap (λ k. c.args.width - k) c.digit_count.ensures.answer in
+    record { after = number_pushed c.args.width c.args.n _ _ _ _ c.push_digits.result few c.in_ok-push_blanks.ensures.after c.push_digits.ensures.after }

@@ -7,18 +7,18 @@ use Rattle.quick.proofs.Gives.{gives, gives_none}
 use Rattle.quick.proofs.Reading.{read_few}
 use Rattle.quick.proofs.arriving.add_grant.Goals as goal
 
-pub add-pairs-requires : goal.add-pairs-requires
-add-pairs-requires c = record {
+pub add_pairs-requires : goal.add_pairs-requires
+add_pairs-requires c = record {
   ups = read_few c.args.table.now c.requires.sound c.args.grant.account c.args.s c.requires.account c.requires.end c.row-ups.result c.row-ups.ensures;
   small = λ j. c.args.items.now.few c.args.grant.item j c.requires.item;
-  room = c.requires.plus-room;
+  room = c.requires.plus_room;
 }
 
-pub add-pairs-requires-in-Minus : goal.add-pairs-requires-in-Minus
-add-pairs-requires-in-Minus c = record {
+pub add_pairs-requires-in-Minus : goal.add_pairs-requires-in-Minus
+add_pairs-requires-in-Minus c = record {
   ups = read_few c.args.table.now c.requires.sound c.args.grant.account c.args.s c.requires.account c.requires.end c.row-ups.result c.row-ups.ensures;
   small = λ j. c.args.items.now.few c.args.grant.item j c.requires.item;
-  room = c.requires.minus-room;
+  room = c.requires.minus_room;
 }
 
 pub returns-in-Plus : goal.returns-in-Plus
@@ -29,7 +29,7 @@ returns-in-Plus c =
     record {
       plus = λ d l.
           gives t.accounts (members_in t) L c.args.s g.right Plus d g c.row-ups.result _ (get_or c.args.plus.now d 0) c.row-ups.ensures refl
-          (ap (same_sign Plus) c.in-Plus.is) (c.add-pairs.ensures.sums d l);
+          (ap (same_sign Plus) c.in-Plus.is) (c.add_pairs.ensures.sums d l);
       minus = λ d l. gives_none t.accounts (members_in t) L c.args.s g.right Minus d g (get_or c.args.minus.now d 0) (ap (same_sign Minus) c.in-Plus.is);
     }
 
@@ -42,5 +42,5 @@ returns-in-Minus c =
       plus = λ d l. gives_none t.accounts (members_in t) L c.args.s g.right Plus d g (get_or c.args.plus.now d 0) (ap (same_sign Plus) c.in-Minus.is);
       minus = λ d l.
           gives t.accounts (members_in t) L c.args.s g.right Minus d g c.row-ups.result _ (get_or c.args.minus.now d 0) c.row-ups.ensures refl
-          (ap (same_sign Minus) c.in-Minus.is) (c.add-pairs-in-Minus.ensures.sums d l);
+          (ap (same_sign Minus) c.in-Minus.is) (c.add_pairs-in-Minus.ensures.sums d l);
     }

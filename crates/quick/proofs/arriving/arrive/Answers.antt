@@ -15,7 +15,7 @@ use Rattle.quick.proofs.Arrivals.{arrived_at, arrived_more, arrived_none, arrive
 use Rattle.quick.proofs.Gives.{grants_few, of_grant_no_items, of_grant_right}
 use Rattle.quick.proofs.Reading.{above_read}
 use Rattle.quick.proofs.arriving.arrive.Goals as goal
-use Rattle.quick.proofs.arriving.arrive.Goals.{then-grant-right+then-leads-from, else-grant-right, else-grant-right-via-then-grant-right+else-leads-from, else-grant-right-via-else-grant-right}
+use Rattle.quick.proofs.arriving.arrive.Goals.{then-grant-right+then-leads_from, else-grant-right, else-grant-right-via-then-grant-right+else-leads_from, else-grant-right-via-else-grant-right}
 
 -- a row that is read of an item up to 255
 read : (counts : List (List ℕ)) (b : ℕ) → b < 256 → row_read counts b ≡ row_at counts b
@@ -29,8 +29,8 @@ bounds-held-grant c =
     All-get_or (λ g. g.account < t.accounts) gs c.loop-grant.grant-index no_grant c.loop-grant-test.true (fit_accounts t.accounts gs c.requires.fitting) in
     omega (arith, c.requires.sound.fits.0)
 
-pub add-grant-requires : goal.add-grant-requires
-add-grant-requires c =
+pub add_grant-requires : goal.add_grant-requires
+add_grant-requires c =
     let t = c.args.table.now in
     let gs = c.args.grants.now in
     let i = c.loop-grant.grant-index in
@@ -41,11 +41,11 @@ add-grant-requires c =
       account = All-get_or (λ g. g.account < t.accounts) gs i no_grant inside (fit_accounts t.accounts gs c.requires.fitting);
       item = All-get_or (λ g. g.item < 256) gs i no_grant inside (fit_items t.accounts gs c.requires.fitting);
       end = c.requires.end;
-      plus-room = λ d l.
+      plus_room = λ d l.
           let old = c.loop-grant.invariant.plus_is d l in
           let few = grants_few t c.requires.sound (entry items.counts) items.few c.args.s c.requires.end c.args.right Plus d gs i c.requires.room c.requires.fitting in
           omega arith;
-      minus-room = λ d l.
+      minus_room = λ d l.
           let old = c.loop-grant.invariant.minus_is d l in
           let few = grants_few t c.requires.sound (entry items.counts) items.few c.args.s c.requires.end c.args.right Minus d gs i c.requires.room c.requires.fitting in
           omega arith;
@@ -73,20 +73,20 @@ loop-grant-preserved c =
     let item : g.item < 256 = All-get_or (λ g. g.item < 256) gs i no_grant inside (fit_items n gs c.requires.fitting) in
     let same = ap (some (ltb 0)) (read items.counts g.item item) in
     elim c.if-grant-right.branch [
-      | then-grant-right+then-leads-from w ↦
-          arrived_at n E L s r _ _ _ _ _ _ _ w.plus_is w.minus-is w.held_is
+      | then-grant-right+then-leads_from w ↦
+          arrived_at n E L s r _ _ _ _ _ _ _ w.plus-is w.minus-is w.held-is
           (arrived_more n E L s r gs i inside c.loop-grant.plus c.loop-grant.minus c.loop-grant.held c.loop-grant.invariant
-          w.add-grant.new.plus w.add-grant.new.minus w.add-grant.array_long w.add-grant.array-long2
-          (λ d l. w.add-grant.ensures.plus d l ∙ ap (λ x. get_or c.loop-grant.plus d 0 + of_grant n E L s x Plus d g) w.if-grant-right.true)
-          (λ d l. w.add-grant.ensures.minus d l ∙ ap (λ x. get_or c.loop-grant.minus d 0 + of_grant n E L s x Minus d g) w.if-grant-right.true)
+          w.add_grant.new.plus w.add_grant.new.minus w.add_grant.array_long w.add_grant.array_long2
+          (λ d l. w.add_grant.ensures.plus d l ∙ ap (λ x. get_or c.loop-grant.plus d 0 + of_grant n E L s x Plus d g) w.if-grant-right.true)
+          (λ d l. w.add_grant.ensures.minus d l ∙ ap (λ x. get_or c.loop-grant.minus d 0 + of_grant n E L s x Minus d g) w.if-grant-right.true)
           w.if-grant-right.true
-          (sym (above_read items.counts g.item (items.wide g.item item)) ∙ sym same ∙ sym w.if-leads-from.ensures.answer)
+          (sym (above_read items.counts g.item (items.wide g.item item)) ∙ sym same ∙ sym w.if-leads_from.ensures.answer)
           (omega (arith, c.requires.sound.fits.0)))
       | else-grant-right w ↦
-          arrived_at n E L s r _ _ _ _ _ _ _ w.plus_is w.minus-is w.held_is
+          arrived_at n E L s r _ _ _ _ _ _ _ w.plus-is w.minus-is w.held-is
           (elim w.else-grant-right.branch [
-            | else-grant-right-via-then-grant-right+else-leads-from v ↦
-                let none : some (ltb 0) (row_at items.counts g.item) ≡ false = sym same ∙ sym v.if-leads-from.ensures.answer in
+            | else-grant-right-via-then-grant-right+else-leads_from v ↦
+                let none : some (ltb 0) (row_at items.counts g.item) ≡ false = sym same ∙ sym v.if-leads_from.ensures.answer in
                 let zero = no_chains (row_at items.counts g.item) (items.wide g.item item) none in
                 let above : above_by L g.item ≡ false = sym (above_read items.counts g.item (items.wide g.item item)) ∙ none in
                 arrived_skip n E L s r gs i inside c.loop-grant.plus c.loop-grant.minus c.loop-grant.held c.loop-grant.invariant
@@ -112,6 +112,6 @@ returns c =
       plus = λ d l. inv.plus_is d l ∙ ap (λ hs. of_grants t.accounts (members_in t) hs L c.args.s c.args.right Plus d) all;
       minus = λ d l. inv.minus_is d l ∙ ap (λ hs. of_grants t.accounts (members_in t) hs L c.args.s c.args.right Minus d) all;
       held = λ a l. inv.held_is a l ∙ ap (λ hs. labelled_by hs L c.args.right a) all;
-      plus-row = (inv.plus_long, λ d l. let old = inv.plus_is d l in omega (arith, few Plus d));
-      minus-row = (inv.minus_long, λ d l. let old = inv.minus_is d l in omega (arith, few Minus d));
+      plus_row = (inv.plus_long, λ d l. let old = inv.plus_is d l in omega (arith, few Plus d));
+      minus_row = (inv.minus_long, λ d l. let old = inv.minus_is d l in omega (arith, few Minus d));
     }

@@ -3,8 +3,8 @@ use Rattle.quick.proofs.Adding.{front_past, row_more}
 use Rattle.std.proofs.lemmas.List.{take_all}
 use Rattle.quick.proofs.defaults.add_row.Goals as goal
 
-pub overflow-add-row : goal.overflow-add-row
-overflow-add-row c =
+pub overflow_add-row : goal.overflow_add-row
+overflow_add-row c =
     let k : ℕ = c.loop-k.k in
     let old = c.loop-k.invariant.1 k (omega arith) in
     let room = c.requires.room k (omega arith) in

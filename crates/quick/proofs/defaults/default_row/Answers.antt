@@ -7,8 +7,8 @@ use Rattle.quick.proofs.Reading.{count_few}
 use Rattle.quick.proofs.defaults.default_row.Goals as goal
 use Rattle.quick.proofs.defaults.default_row.Goals.{then-not-held-a, else-not-held-a}
 
-pub add-default-requires : goal.add-default-requires
-add-default-requires c =
+pub add_default-requires : goal.add_default-requires
+add_default-requires c =
     let t = c.args.table.now in
     record {
       sound = c.requires.sound;
@@ -34,10 +34,10 @@ loop-a-preserved c =
     let held = c.args.held.now in
     elim c.if-not-held-a.branch [
       | then-not-held-a w ↦ (
-        ap (λ (row : List ℕ). length row) w.row-is ∙ w.add-default.array_long,
+        ap (λ (row : List ℕ). length row) w.row-is ∙ w.add_default.array_long,
         λ d l.
             let old : get_or c.loop-a.row d 0 ≡ defaults_below c.loop-a.a n E held c.args.s d = c.loop-a.invariant.1 d l in
-            let new = w.add-default.ensures.sums d l in
+            let new = w.add_default.ensures.sums d l in
             let moved = ap (λ (row : List ℕ). get_or row d 0) w.row-is in
             let more = defaults_free n E held c.args.s d c.loop-a.a w.if-not-held-a.true in
             let next : get_or c.if-not-held-a.row d 0 ≡ defaults_below (c.loop-a.a + 1) n E held c.args.s d = omega arith in

@@ -6,8 +6,8 @@ use Rattle.quick.proofs.Pairs.{products_shifted, shifted_none, shifted_sum_few}
 use Rattle.quick.proofs.sums.add_pairs.Goals as goal
 use Rattle.quick.proofs.sums.add_pairs.Goals.{then-ups-i-gt0, else-ups-i-gt0}
 
-pub add-shifted-requires : goal.add-shifted-requires
-add-shifted-requires c =
+pub add_shifted-requires : goal.add_shifted-requires
+add_shifted-requires c =
     let f : ℕ → ℕ = at_of c.args.ups.now in
     let g : ℕ → ℕ = at_of c.args.lengths.now in
     record {
@@ -35,7 +35,7 @@ loop-i-preserved c =
         λ d l.
             let more = sum_more i (λ k. shifted k (f k) g d) in
             let old : get_or c.loop-i.row d 0 ≡ get_or c.args.row.now d 0 + sum_below i (λ k. shifted k (f k) g d) = c.loop-i.invariant.1 d l in
-            let new : get_or w.add-shifted.new.row d 0 ≡ get_or c.loop-i.row d 0 + shifted i (f i) g d = w.add-shifted.ensures.sums d l in
+            let new : get_or w.add_shifted.new.row d 0 ≡ get_or c.loop-i.row d 0 + shifted i (f i) g d = w.add_shifted.ensures.sums d l in
             let moved = ap (λ row. get_or row d 0) w.row-is in
             let next : get_or c.if-ups-i-gt0.row d 0 ≡ get_or c.args.row.now d 0 + sum_below (i + 1) (λ k. shifted k (f k) g d) = omega arith in
             next,

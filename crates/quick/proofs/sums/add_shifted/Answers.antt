@@ -3,8 +3,8 @@ use Rattle.quick.specs.Sums.{at_of, reached}
 use Rattle.quick.proofs.Pairs.{reached_few, reached_none, shifted_step}
 use Rattle.quick.proofs.sums.add_shifted.Goals as goal
 
-pub overflow-add-row-in-loop-j : goal.overflow-add-row-in-loop-j
-overflow-add-row-in-loop-j c =
+pub overflow_add-row-in-loop-j : goal.overflow_add-row-in-loop-j
+overflow_add-row-in-loop-j c =
     let g : ℕ → ℕ = at_of c.args.lengths.now in
     let at : ℕ = c.args.up + c.loop-j.j in
     let within : at < 15 = omega (arith, c.requires.up) in

@@ -17,16 +17,16 @@ pub returns : goal.returns
 returns g c =
     let t = c.args.table.now in
     let grants = c.args.grants.now in
-    let above = c.item-counts-above.result in
+    let above = c.item_counts-above.result in
     let I = g.P.Plan.meaning c.args.plan.now in
     let s = c.args.s in
     let o = c.args.item in
     let r = c.args.right in
     let sign = c.args.sign in
-    let same = read_listed I o above c.item-counts-above.ensures.counted grants (fit_items t.accounts grants c.requires.fitting) in
-    least_listed (Signed sign) (listing t.accounts (standing t grants) I s o r) c.nearest-from.result
-    (subst (λ f. FirstIfAny f c.nearest-from.result)
+    let same = read_listed I o above c.item_counts-above.ensures.counted grants (fit_items t.accounts grants c.requires.fitting) in
+    least_listed (Signed sign) (listing t.accounts (standing t grants) I s o r) c.nearest_from.result
+    (subst (λ f. FirstIfAny f c.nearest_from.result)
     (fun_ext (λ d.
     of_grants_same t.accounts (members_in t) (lengths_in above.counts) (listed_lengths I o) s r sign d grants same
     ∙ sym (counted_signed t.accounts (standing t grants) I s o r d sign)))
-    c.nearest-from.ensures)
+    c.nearest_from.ensures)

@@ -10,8 +10,8 @@ pub returns : goal.returns
 returns g c =
     let t = c.args.table.now in
     let grants = c.args.grants.now in
-    let above = c.item-counts-above.result in
+    let above = c.item_counts-above.result in
     let I = g.P.Plan.meaning c.args.plan.now in
-    rows_listed t.accounts (standing t grants) I (lengths_in above.counts) c.args.s c.args.item c.args.right c.rows-from.result c.rows-from.ensures
-    (read_listed I c.args.item above c.item-counts-above.ensures.counted grants (fit_items t.accounts grants c.requires.fitting))
+    rows_listed t.accounts (standing t grants) I (lengths_in above.counts) c.args.s c.args.item c.args.right c.rows_from.result c.rows_from.ensures
+    (read_listed I c.args.item above c.item_counts-above.ensures.counted grants (fit_items t.accounts grants c.requires.fitting))
     (few_listed t c.requires.sound grants c.requires.fitting c.requires.room I (g.met.P.Plan.lawful c.args.plan.now) c.args.s c.args.item c.args.right c.requires.end)

@@ -10,10 +10,10 @@ use Rattle.walked.proofs.starting.grants_start.Goals as goal
 use Rattle.walked.proofs.starting.grants_start.Goals.{then-grant-right, else-grant-right}
 
 pub loop-grant-init : goal.loop-grant-init
-loop-grant-init c = from_none c.args.grants.now (lengths_in c.args.above.now.counts) c.args.right c.no-starts-starts.result c.no-starts-starts.ensures
+loop-grant-init c = from_none c.args.grants.now (lengths_in c.args.above.now.counts) c.args.right c.no_starts-starts.result c.no_starts-starts.ensures
 
-pub add-grant-requires : goal.add-grant-requires
-add-grant-requires c = record {
+pub add_grant-requires : goal.add_grant-requires
+add_grant-requires c = record {
   full = c.loop-grant.invariant.full;
   account = All-get_or (λ g. g.account < 64) c.args.grants.now c.loop-grant.grant-index (record { account = 0; item = 0; right = 0; sign = Plus }) (omega arith) c.requires;
 }
@@ -27,8 +27,8 @@ loop-grant-preserved c =
     elim c.if-grant-right.branch [
       | then-grant-right w ↦
           subst (FromGrants (take (i + 1) grants) L c.args.right) (sym w.starts-is)
-          (from_more grants L c.args.right i (get_or grants i none) none c.loop-grant-test.true refl c.loop-grant.starts w.add-grant.new.starts
-          w.if-grant-right.true c.loop-grant.invariant w.add-grant.ensures)
+          (from_more grants L c.args.right i (get_or grants i none) none c.loop-grant-test.true refl c.loop-grant.starts w.add_grant.new.starts
+          w.if-grant-right.true c.loop-grant.invariant w.add_grant.ensures)
       | else-grant-right w ↦
           subst (FromGrants (take (i + 1) grants) L c.args.right) (sym w.starts-is)
           (from_skip grants L c.args.right i (get_or grants i none) none c.loop-grant-test.true refl c.loop-grant.starts w.if-grant-right.false c.loop-grant.invariant)

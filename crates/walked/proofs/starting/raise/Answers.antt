@@ -6,8 +6,8 @@ use Rattle.walk.specs.RowLaws.{same_row, count_of}
 use Rattle.walked.specs.Taking.{raised}
 use Rattle.walked.proofs.starting.raise.Goals as goal
 
-pub overflow-add-counts : goal.overflow-add-counts
-overflow-add-counts c =
+pub overflow_add-counts : goal.overflow_add-counts
+overflow_add-counts c =
     let j = c.loop-j.j in
     let same = c.loop-j.invariant.2 j (omega arith) in
     let small = c.args.row.now.small j (omega arith) in

@@ -12,7 +12,7 @@ pub returns : goal.returns
 returns c =
     let gs = c.args.self.now in
     let wanted = is_for c.args.account c.args.item c.args.right in
-    both_ways c.place-of.result
+    both_ways c.place_of.result
     (λ none. none_front wanted gs.records.now gs.standing c.requires none)
     (λ i here. (here.0, (λ d. ap wanted (get_or-take gs.standing gs.records.now i d here.0) ∙ here.1 d), some_front wanted gs.records.now gs.standing i c.requires here.0 here.1))
-    c.place-of.ensures
+    c.place_of.ensures

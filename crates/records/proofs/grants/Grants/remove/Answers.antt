@@ -4,12 +4,12 @@ use Rattle.records.proofs.grants.Grants.remove.Goals as goal
 
 pub returns : goal.returns
 returns c =
-    let t = c.args.self.now.records.now in let u = c.close-gap.new.records in
+    let t = c.args.self.now.records.now in let u = c.close_gap.new.records in
     let n = c.args.self.now.standing in let at = c.args.at in
     let m : Moved t u at (n - 1) = record {
-      before = c.close-gap.ensures.before;
-      moved = c.close-gap.ensures.moved;
-      behind = c.close-gap.ensures.behind;
+      before = c.close_gap.ensures.before;
+      moved = c.close_gap.ensures.moved;
+      behind = c.close_gap.ensures.behind;
     } in
     record {
       standing = search rules;
