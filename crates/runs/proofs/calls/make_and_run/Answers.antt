@@ -40,32 +40,32 @@ made_behind n counts lent e =
 pub returns : goal.returns
 returns g c =
     let made = c.make-book.result in
-    let book = c.run-calls.new.book in
+    let book = c.run_calls.new.book in
     let I = g.P.Plan.meaning c.args.plan.now in
     let calls = c.args.calls.now in
     let old = c.args.replies.now in
     let n = accounts_of book in
     let most = min 512 (length c.args.records.now) in
-    let same-n : accounts_of made ≡ n = sym c.run-calls.ensures.accounts in
+    let same-n : accounts_of made ≡ n = sym c.run_calls.ensures.accounts in
     let same-most : capacity_in made ≡ most = ap (λ xs. min 512 (length xs)) c.make-book.ensures.records in
     let same_start : shown made ≡ just_made = c.make-book.ensures.after in
-    let same-calls : take c.run-calls.result calls ≡ take (length old) calls =
-    ap (λ (k : ℕ). take k calls) c.run-calls.ensures.made ∙ take_up_to calls (length old) in
+    let same-calls : take c.run_calls.result calls ≡ take (length old) calls =
+    ap (λ (k : ℕ). take k calls) c.run_calls.ensures.made ∙ take_up_to calls (length old) in
     let is : shown book ≡ run n most just_made (take (length old) calls) =
-    c.run-calls.ensures.after ∙ (λ i. run (same-n i) (same-most i) (same_start i) (same-calls i)) in
+    c.run_calls.ensures.after ∙ (λ i. run (same-n i) (same-most i) (same_start i) (same-calls i)) in
     let members = ap (λ (M : Model). M.members) is in
     let behind : drop (size n) (counts_in book) ≡ drop (size n) c.args.counts.now =
     subst (λ (m : ℕ). drop (size m) (counts_in book) ≡ drop (size m) c.args.counts.now) same-n
-    (c.run-calls.ensures.behind ∙ made_behind (accounts_of made) (counts_in made) c.args.counts.now c.make-book.ensures.counts) in
+    (c.run_calls.ensures.behind ∙ made_behind (accounts_of made) (counts_in made) c.args.counts.now c.make-book.ensures.counts) in
     record {
       accounts = subst (λ (m : ℕ). Largest (length c.args.counts.now) m) same-n c.make-book.ensures.accounts;
       after = is;
       places = λ a s k ha hs hk. laid_at n (members_in book.table) (counts_in book) book.counts a s k ha hs hk ∙ ap (λ (M : Model). count n M.members a s k) is;
       counts = laid_out book.table (table_sound book) n (run n most just_made (take (length old) calls)).members (drop (size n) c.args.counts.now) refl members behind;
-      records = c.run-calls.ensures.records ∙ (λ i. record_run (same-n i) (same-most i) (same_start i) (c.make-book.ensures.records i) (same-calls i));
+      records = c.run_calls.ensures.records ∙ (λ i. record_run (same-n i) (same-most i) (same_start i) (c.make-book.ensures.records i) (same-calls i));
       answers =
-          c.run-calls.ensures.answers
+          c.run_calls.ensures.answers
           ∙ ap₂ (λ (xs ys : List Reply). xs ++ ys) (λ i. run_replies (same-n i) (same-most i) I (same_start i) (same-calls i))
-          (ap (λ (k : ℕ). drop k old) c.run-calls.ensures.made ∙ drop_from old (length calls));
+          (ap (λ (k : ℕ). drop k old) c.run_calls.ensures.made ∙ drop_from old (length calls));
       circles = circles_in_runs;
     }

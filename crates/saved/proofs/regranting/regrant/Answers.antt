@@ -21,9 +21,9 @@ loop-grant-init c = (c.requires ∙ none c.args.grants.now, refl, refl)
     none [] = refl
     none (g ∷ gs) = refl
 
-pub returns-then-not-give-again : goal.returns-then-not-give-again
-returns-then-not-give-again c =
-    let told = c.if-not-give-again.ensures in
+pub returns-then-not-give_again : goal.returns-then-not-give_again
+returns-then-not-give_again c =
+    let told = c.if-not-give_again.ensures in
     let inv = c.loop-grant.invariant in
     let i = c.loop-grant.grant-index in
     let gs = c.args.grants.now in
@@ -46,7 +46,7 @@ returns-then-not-give-again c =
 
 pub loop-grant-preserved : goal.loop-grant-preserved
 loop-grant-preserved c =
-    let told = c.if-not-give-again.ensures in
+    let told = c.if-not-give_again.ensures in
     let inv = c.loop-grant.invariant in
     let i = c.loop-grant.grant-index in
     let gs = c.args.grants.now in (

@@ -6,7 +6,7 @@ use Rattle.saved.proofs.rejoining.rejoin.Goals as goal
 
 pub loop-group-preserved : goal.loop-group-preserved
 loop-group-preserved c =
-    let told = c.if-not-rejoin-line.ensures in
+    let told = c.if-not-rejoin_line.ensures in
     let inv = c.loop-group.invariant in
     let n = c.args.n in
     let t = c.args.counts.now in (

@@ -14,9 +14,9 @@ use Rattle.saved.proofs.rejoining.rejoin_line.Goals as goal
 shows : (n : ℕ) (t : List ℕ) (g m x : ℕ) → g < n → m < n → x ≡ entry t n g m 1 → ltb 0 x ≡ shown_members n t g m
 shows n t g m x hg hm e = ap (ltb 0) e ∙ sym (shown_known n t g m hg hm)
 
-pub returns-then-not-join-if : goal.returns-then-not-join-if
-returns-then-not-join-if c =
-    let told = c.if-not-join-if.ensures in
+pub returns-then-not-join_if : goal.returns-then-not-join_if
+returns-then-not-join_if c =
+    let told = c.if-not-join_if.ensures in
     let inv = c.loop-member.invariant in
     let n = c.args.n in
     let t = c.args.counts.now in
@@ -24,7 +24,7 @@ returns-then-not-join-if c =
     let g = c.args.group in
     let m = c.loop-member.member in
     let no = told.refused refl in
-    let stands : E g m ≡ true = sym (shows n t g m c.count-at-wanted.result c.requires.group c.loop-member-test.true c.count-at-wanted.ensures) ∙ no.0 in
+    let stands : E g m ≡ true = sym (shows n t g m c.count_at-wanted.result c.requires.group c.loop-member-test.true c.count_at-wanted.ensures) ∙ no.0 in
     record {
       done = λ e. absurd (true≢false (sym e));
       failed = λ _ sound.
@@ -38,7 +38,7 @@ returns-then-not-join-if c =
 
 pub loop-member-preserved : goal.loop-member-preserved
 loop-member-preserved c =
-    let told = c.if-not-join-if.ensures in
+    let told = c.if-not-join_if.ensures in
     let inv = c.loop-member.invariant in
     let n = c.args.n in
     let t = c.args.counts.now in
@@ -46,7 +46,7 @@ loop-member-preserved c =
     let m = c.loop-member.member in (
       told.accepted refl
           ∙ ap₂ (λ (w : Bool) (F : Members). cond w (add F g m) F)
-          (shows n t g m c.count-at-wanted.result c.requires.group c.loop-member-test.true c.count-at-wanted.ensures) inv.0
+          (shows n t g m c.count_at-wanted.result c.requires.group c.loop-member-test.true c.count_at-wanted.ensures) inv.0
           ∙ before_more (shown_members n t) g m,
       told.same.0 ∙ inv.1,
       told.same.1 ∙ inv.2,

@@ -54,9 +54,9 @@ returns-then-not-rejoin c =
       same = (told.same.1, told.same.2);
     }
 
-pub returns-then-not-same-first : goal.returns-then-not-same-first
-returns-then-not-same-first c =
-    let told = c.if-not-same-first.ensures in
+pub returns-then-not-same_first : goal.returns-then-not-same_first
+returns-then-not-same_first c =
+    let told = c.if-not-same_first.ensures in
     let joined = c.if-not-rejoin.ensures in
     let t = c.args.counts.now in
     let n = c.accounts-n.result in
@@ -80,7 +80,7 @@ pub returns : goal.returns
 returns c =
     let told = c.regrant.ensures in
     let joined = c.if-not-rejoin.ensures in
-    let compared = c.if-not-same-first.ensures in
+    let compared = c.if-not-same_first.ensures in
     let t = c.args.counts.now in
     let gs = c.args.grants.now in
     let n = c.accounts-n.result in

@@ -12,11 +12,11 @@ unfolding leave_outcome
 returns c =
     let b = c.args.self.now in
     let n = accounts_of b in
-    let step = c.leave-in.ensures in
-    let t = c.leave-in.new.table in
+    let step = c.leave_in.ensures in
+    let t = c.leave_in.new.table in
     let p = c.args.group in
     let m = c.args.member in
-    let after = shown_left n (shown b) p m c.leave-in.result (members_in t) step.answer step.after in
+    let after = shown_left n (shown b) p m c.leave_in.result (members_in t) step.answer step.after in
     record {
       answer = step.answer;
       after = after;

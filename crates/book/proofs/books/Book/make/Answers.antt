@@ -11,11 +11,11 @@ none_stand m xs e = ap (λ k. take k xs) e ∙ by xs
     by [] = refl
     by (x ∷ xs) = refl
 
-pub invariant-of-result : goal.invariant-of-result
-invariant-of-result c =
+pub invariant_of-result : goal.invariant_of-result
+invariant_of-result c =
     let t = c.make-table.ensures.sound in
     let g = c.none-grants.ensures.kept c.make-table.result.accounts in
-    (t.fits, (t.counts, (t.short, (t.few, (t.groups, (g.room, (g.fitting, (g.once, tt))))))))
+    record { fits = t.fits; counts = t.counts; short = t.short; few = t.few; groups = t.groups; room = g.room; fitting = g.fitting; once = g.once }
 
 pub returns : goal.returns
 returns c =
