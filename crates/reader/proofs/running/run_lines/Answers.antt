@@ -7,11 +7,11 @@ use Rattle.reader.proofs.running.run_lines.Goals as goal
 
 pub loop-outcome-preserved : goal.loop-outcome-preserved
 loop-outcome-preserved c =
-    let r = c.run-line.new.reader in
+    let r = c.run_line.new.reader in
     let done : List ℕ = vec_items c.loop-outcome.out in
     let line : List ℕ = output_line r.line c.in-Some.outcome in
-    let rest : List ℕ = lines_output r.line (session c.run-line.new.book c.run-line.new.equipment c.run-line.new.strategy) (unread r) in
-    let pushed = c.in-ok-push-line.ensures.after ∙ ap (λ (k : ℕ). done ++ output_line k c.in-Some.outcome) c.line.ensures.answer in (
+    let rest : List ℕ = lines_output r.line (session c.run_line.new.book c.run_line.new.equipment c.run_line.new.strategy) (unread r) in
+    let pushed = c.in_ok-push_line.ensures.after ∙ ap (λ (k : ℕ). done ++ output_line k c.in-Some.outcome) c.line.ensures.answer in (
       c.in-Some.ensures.accounts,
       c.in-Some.ensures.capacity,
       ap (λ (bytes : List ℕ). bytes ++ rest) pushed

@@ -6,18 +6,18 @@ use Rattle.output.specs.Output.{output_line}
 use Rattle.reader.specs.Sessions.{lines_output, list_output, started}
 use Rattle.reader.proofs.running.run_list.Goals as goal
 
-pub returns-then-text-gt-MOST-BYTES : goal.returns-then-text-gt-MOST-BYTES
+pub returns-then-text-gt-MOST_BYTES : goal.returns-then-text-gt-MOST_BYTES
 unfolding list_output
-returns-then-text-gt-MOST-BYTES c =
+returns-then-text-gt-MOST_BYTES c =
     let text = c.args.text.now in
-    c.in-ok-push-line.ensures.after
+    c.in_ok-push_line.ensures.after
     ∙ ap (λ (bytes : List ℕ). bytes ++ output_line 0 (Refused 21)) c.new-out.ensures.items
-    ∙ sym (cond-true (ltb 57000 (length text)) (output_line 0 (Refused 21)) (lines_output 0 started (list_of text)) (lt-ltb 57000 (length text) c.if-text-gt-MOST-BYTES.true))
+    ∙ sym (cond-true (ltb 57000 (length text)) (output_line 0 (Refused 21)) (lines_output 0 started (list_of text)) (lt-ltb 57000 (length text) c.if-text-gt-MOST_BYTES.true))
 
 pub returns : goal.returns
 unfolding list_output
 returns c =
     let text = c.args.text.now in
-    c.in-ok-run-over.ensures
+    c.in_ok-run_over.ensures
     ∙ ap (λ (bytes : List ℕ). bytes ++ lines_output 0 started (list_of text)) c.new-out.ensures.items
-    ∙ sym (cond-false (ltb 57000 (length text)) (output_line 0 (Refused 21)) (lines_output 0 started (list_of text)) (le-ltb 57000 (length text) c.if-text-gt-MOST-BYTES.false))
+    ∙ sym (cond-false (ltb 57000 (length text)) (output_line 0 (Refused 21)) (lines_output 0 started (list_of text)) (le-ltb 57000 (length text) c.if-text-gt-MOST_BYTES.false))

@@ -22,17 +22,17 @@ thirty_two len n e l = split (cases_lt 32 n)
         absurd (omega arith)
     split (inr less) = let least = at_least in omega arith
 
-pub run-lines-requires : goal.run-lines-requires
-run-lines-requires c = record {
+pub run_lines-requires : goal.run_lines-requires
+run_lines-requires c = record {
   accounts = thirty_two _ _ c.requires.counts c.make-book.ensures.accounts;
   capacity = ap (λ xs. min 512 (length xs)) c.make-book.ensures.records ∙ ap (min 512) c.requires.records;
 }
 
 pub returns : goal.returns
 returns c =
-    let begins : lines_output c.new-reader.result.line (session c.make-book.result c.new-equipment.result c.prefer-minus-strategy.result) (unread c.new-reader.result)
+    let begins : lines_output c.new-reader.result.line (session c.make-book.result c.new-equipment.result c.prefer_minus-strategy.result) (unread c.new-reader.result)
     ≡ lines_output 0 started (list_of c.args.text.now) =
     λ i. lines_output (c.new-reader.ensures.count i)
-    (record { model = c.make-book.ensures.after i; equipment = c.new-equipment.ensures.made i; strategy = c.prefer-minus-strategy.ensures i })
+    (record { model = c.make-book.ensures.after i; equipment = c.new-equipment.ensures.made i; strategy = c.prefer_minus-strategy.ensures i })
     (c.new-reader.ensures.answer i) in
-    subst (λ (bytes : List ℕ). Pushed c.run-lines.result (vec_items c.args.out.now) (vec_items c.run-lines.new.out) bytes) begins c.run-lines.ensures
+    subst (λ (bytes : List ℕ). Pushed c.run_lines.result (vec_items c.args.out.now) (vec_items c.run_lines.new.out) bytes) begins c.run_lines.ensures
