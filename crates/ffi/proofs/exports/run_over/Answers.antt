@@ -11,11 +11,11 @@ use Rattle.ffi.proofs.exports.run_over.Goals as goal
 pub returns : goal.returns
 returns c =
     let made = c.make-book.result in
-    let book = c.serve-all-made.new.book in
-    let served = c.serve-all-made.ensures in
+    let book = c.serve_all-made.new.book in
+    let served = c.serve_all-made.ensures in
     let n = c.accounts-accounts.result in
     let most = min 512 (length c.args.records.now) in
-    let calls = take c.serve-all-made.result c.args.calls.now in
+    let calls = take c.serve_all-made.result c.args.calls.now in
     let here : n ≡ accounts_of book = c.accounts-accounts.ensures in
     let same-n : accounts_of made ≡ n = sym (here ∙ served.accounts) in
     let lent = c.requires.grants in
@@ -23,7 +23,7 @@ returns c =
     let same-most : capacity_in made ≡ most = room ∙ omega arith in
     let start : standing made c.new-equipment.result ≡ at_first =
     λ i. record { model = c.make-book.ensures.after i; equipment = c.new-equipment.ensures.made i } in
-    let is : standing book c.serve-all-made.new.equipment ≡ run n most at_first calls = served.after ∙ (λ i. run (same-n i) (same-most i) (start i) calls) in
+    let is : standing book c.serve_all-made.new.equipment ≡ run n most at_first calls = served.after ∙ (λ i. run (same-n i) (same-most i) (start i) calls) in
     let grants : c.grants-standing.result.now ≡ (run n most at_first calls).model.grants = c.grants-standing.ensures ∙ ap (λ (S : Standing). S.model.grants) is in
     record {
       status = refl;
@@ -31,14 +31,14 @@ returns c =
           largest_in_all _ _ (subst (λ (m : ℕ). Largest m n) c.requires.table
           (subst (λ (m : ℕ). Largest (length c.args.table.now) m) same-n c.make-book.ensures.accounts));
       calls = served.made;
-      answers = served.answers ∙ (λ i. all_replies (same-n i) (same-most i) (start i) calls ++ drop c.serve-all-made.result c.args.replies.now);
+      answers = served.answers ∙ (λ i. all_replies (same-n i) (same-most i) (start i) calls ++ drop c.serve_all-made.result c.args.replies.now);
       counts =
-          c.copy-first.ensures
+          c.copy_first.ensures
           ∙ ap (λ (xs : List ℕ). xs ++ drop (size n) c.args.counts.now)
           (ap (take (size n)) c.counts.ensures
           ∙ ap (λ (m : ℕ). take (size m) (counts_in book)) here
           ∙ book.counts
           ∙ (λ i. table_of (sym here i) (is i).model.members));
-      records = c.write-grants.ensures ∙ ap (λ (gs : List Grant). map grant_record gs ++ drop (length c.grants-standing.result.now) c.args.records.now) grants;
+      records = c.write_grants.ensures ∙ ap (λ (gs : List Grant). map grant_record gs ++ drop (length c.grants-standing.result.now) c.args.records.now) grants;
       grants = ap length grants;
     }

@@ -7,7 +7,7 @@ returns c =
     let output = c.args.output.now in
     record {
       status = omega arith;
-      written = λ _. c.copy-first.ensures ∙ ap (λ (xs : List ℕ). xs ++ drop (length output) c.args.out.now) (take_all (length output) output (omega arith));
+      written = λ _. c.copy_first.ensures ∙ ap (λ (xs : List ℕ). xs ++ drop (length output) c.args.out.now) (take_all (length output) output (omega arith));
       lacking = λ e. absurd (omega arith);
       bytes = refl;
     }
