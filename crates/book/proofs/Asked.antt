@@ -1,5 +1,5 @@
 -- Questions that are refused or accepted, and how many marks can reach one. Assumes nothing.
-use Rattle.std.proofs.Common.{◌≡◌, ℕ, ◌<◌, ◌≤◌, min, map, length, Ok, Err, Option, Result, sym, refl, ap, ◌∙◌, arith}
+use Rattle.std.proofs.Common.{◌≡◌, ℕ, ◌<◌, ◌≤◌, map, length, Ok, Err, Option, ap, ◌∙◌, arith}
 use Rattle.std.proofs.lemmas.List.{length-take-le}
 use Rattle.lists.specs.Lists.{keep}
 use Rattle.plans.specs.Items.{Items, Lawful}

@@ -1,5 +1,5 @@
 -- The whole of the lent counts: the table of the memberships, and what lies behind it. Assumes nothing.
-use Rattle.std.proofs.Common.{◌≡◌, ℕ, List, ◌++◌, take, drop, sym, ap, ◌∙◌, ap₂}
+use Rattle.std.proofs.Common.{◌≡◌, ℕ, List, ◌++◌, sym, ◌∙◌, ap₂}
 use Rattle.std.proofs.lemmas.List.{take-append-drop}
 use Rattle.chains.specs.Chains.{Members}
 use Rattle.chains.specs.Table.{size, table_of}

@@ -1,5 +1,6 @@
 //! Makes random charts and random calls on the book, and compares all that it holds and tells with a lister that walks every
 //! chain one by one. An argument says how many charts; at the first difference the calls are printed as an access list.
+#![tactic(auto)]
 
 mod chart;
 mod comparing;

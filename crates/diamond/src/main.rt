@@ -1,4 +1,5 @@
 //! Lends a table more memory than it needs, filled with rubbish, and shows the counts of a diamond and of a row of accounts.
+#![tactic(auto)]
 
 ghost use Rattle.std.specs.Prelude.{◌≡◌, ℕ, ◌<◌, ◌≤◌, true, length, slice_index};
 ghost use Rattle.table.specs.Tables.{SoundTable};

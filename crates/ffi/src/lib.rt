@@ -1,4 +1,5 @@
 //! The book and the access list for callers in C: numbers, slices and plain records cross, and nothing else.
+#![tactic(auto)]
 
 mod answers;
 mod exports;

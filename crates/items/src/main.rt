@@ -1,4 +1,6 @@
 //! Prints the chains above one item of the channel plan, and an equipment table as it is filled, with every refusal.
+#![tactic(auto)]
+
 use plans::{Channels, Equipment, Plan, item_counts};
 use std::io;
 

@@ -1,4 +1,5 @@
 //! Joins and leavings on the table, with their refusals: an inner layer, whose calls require a sound table.
+#![tactic(auto)]
 
 ghost use Rattle.chains.specs.Chains.{add, strike};
 ghost use Rattle.model.specs.Model.{join_checks, leave_checks};

@@ -1,4 +1,5 @@
 //! The lines of an access list: what one line says, and what can be wrong with it.
+#![tactic(auto)]
 
 mod commands;
 pub mod faults;

@@ -1,4 +1,5 @@
 //! The plain lister, which the book is compared with: it walks every chain one by one, lists every mark, and decides on the list.
+#![tactic(auto)]
 
 pub mod changing;
 pub mod deciding;

@@ -1,5 +1,5 @@
 -- The lines that write a mark: the mark, a blank and a distance from 0 to 14. Assumes nothing.
-use Rattle.std.specs.Prelude.{ℕ, ◌+◌, ◌-◌, Bool, true, false, cond, ◌&&◌, List, [], ◌∷◌, Some, None, Ok, Err, Option, Result, ◌==◌, nat_le}
+use Rattle.std.specs.Prelude.{ℕ, ◌-◌, cond, ◌&&◌, List, [], ◌∷◌, Some, None, Ok, Err, Option, Result, ◌==◌, nat_le}
 use Rattle.strategies.specs.declared.marks.Sign.TheVariants.{Plus, Minus}
 use Rattle.strategies.specs.declared.marks.Mark.{Mark}
 use Rattle.strategies.specs.declared.marks.Mark.TheVariants.{Signed, Default}

@@ -1,4 +1,5 @@
 //! Lists of marks, one a line: reading them and counting what they write.
+#![tactic(auto)]
 
 mod counting;
 pub mod faults;

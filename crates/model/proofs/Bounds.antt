@@ -1,5 +1,5 @@
 -- No row of a listing is far, and there are not too many. Assumes nothing.
-use Rattle.std.proofs.Common.{◌≡◌, ℕ, zero, suc, ◌+◌, ◌<◌, ◌≤◌, Bool, true, false, cond, ◌&&◌, ◌||◌, eqb, ltb, List, [], ◌∷◌, ◌++◌, map, length, sum_by, sym, refl, ap, ◌∙◌, true≢false, arith, length-append}
+use Rattle.std.proofs.Common.{◌≡◌, ℕ, zero, suc, ◌+◌, ◌<◌, ◌≤◌, Bool, true, false, cond, ◌&&◌, ◌||◌, eqb, ltb, List, [], ◌∷◌, map, length, refl, ◌∙◌, true≢false, arith, length-append}
 use Rattle.std.specs.List.{AllByRecursion as All}
 use Rattle.std.proofs.ByRecursion.{All-append, All-weaker, sum_by_le}
 use Rattle.std.proofs.lemmas.Bool.{and_right, ltb-false, ltb-true, ne_eqb, not-false, or_parts}
@@ -14,7 +14,6 @@ use Rattle.strategies.specs.declared.marks.Mark.TheVariants.{Signed, Default}
 use Rattle.strategies.specs.declared.marks.Arrival.{Arrival}
 use Rattle.model.specs.Grants.{misfit, unknown}
 use Rattle.model.specs.Model.{Model}
-use Rattle.model.specs.RunLaws.{Standing}
 use Rattle.model.specs.Question.{over_chains, grant_arrivals, unmarked, default_marks, listing}
 use Rattle.model.specs.ListingLaws.{FewRows}
 use Rattle.model.specs.declared.grant.Grant.{Grant}

@@ -1,6 +1,6 @@
 -- Counting the rows of chains and of one grant. Assumes nothing.
 use Rattle.std.proofs.Common.{◌≡◌, ℕ, ◌+◌, ◌*◌, Bool, true, false, cond, ◌&&◌, eqb, List, [], ◌++◌, map, length, sum_by, sym, refl, ap, ◌∙◌, mul_comm, zero-mul}
-use Rattle.lists.specs.Lists.{below, join_all, keep, sum_below}
+use Rattle.lists.specs.Lists.{below, join_all, sum_below}
 use Rattle.lists.proofs.Sums.{sum_same, sum_zero, sum_times}
 use Rattle.lists.proofs.Kept.{kept_append, kept_joined, kept_same, sum_by_same, sum_by_same_all, sum_by_below}
 use Rattle.chains.specs.Chains.{Members, chains, count}

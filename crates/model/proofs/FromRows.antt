@@ -1,8 +1,8 @@
 -- Answers from counted marks. Assumes nothing.
-use Rattle.std.proofs.Common.{◌≡◌, ℕ, suc, ◌+◌, ◌<◌, ◌≤◌, Bool, true, false, cond, List, [], ◌∷◌, ◌++◌, map, length, get_or, sym, refl, ap, ◌∙◌, arith, length-append}
+use Rattle.std.proofs.Common.{◌≡◌, ℕ, ◌≤◌, List, [], ◌∷◌, map, length, get_or, sym, arith, length-append}
 use Rattle.std.proofs.lemmas.List.FromFn.{fill_by_all}
-use Rattle.lists.specs.Lists.{below, join_all, keep}
-use Rattle.strategies.specs.Resolve.{Vote, same_sign, vote_of, votes, tally, decided}
+use Rattle.lists.specs.Lists.{below}
+use Rattle.strategies.specs.Resolve.{same_sign, vote_of, votes, tally, decided}
 use Rattle.strategies.specs.Rows.{CountsOf, counted}
 use Rattle.strategies.specs.declared.marks.Sign.{Sign}
 use Rattle.strategies.specs.declared.marks.Sign.TheVariants.{Plus, Minus}

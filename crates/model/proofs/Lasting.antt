@@ -1,9 +1,9 @@
 -- What every call keeps of the model. Assumes nothing.
-use Rattle.std.proofs.Common.{◌≡◌, ℕ, zero, suc, ◌+◌, ◌<◌, ◌≤◌, Bool, true, false, cond, not, ◌||◌, ltb, List, [], ◌∷◌, ◌++◌, length, Ok, Err, sym, refl, ap, ◌∙◌, arith}
+use Rattle.std.proofs.Common.{◌≡◌, ℕ, ◌<◌, ◌≤◌, Bool, true, false, cond, not, ◌||◌, ltb, List, [], ◌∷◌, ◌++◌, length, Err, refl, ◌∙◌, arith}
 use Rattle.std.proofs.lemmas.List.{length-append}
 use Rattle.std.proofs.lemmas.Bool.{ltb-true, not-false, or_from, or_parts}
 use Rattle.lists.specs.Lists.{keep, some}
-use Rattle.chains.specs.Chains.{Members, Sound, Joinable, Short, add, strike}
+use Rattle.chains.specs.Chains.{add, strike}
 use Rattle.chains.proofs.Held.{empty_sound, joined_sound, left_sound}
 use Rattle.chains.proofs.Sets.{add_within}
 use Rattle.chains.proofs.Table.{few_everywhere, none_counted, short_by_eight}

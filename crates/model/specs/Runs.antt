@@ -1,7 +1,7 @@
 -- Whole runs: the model fed with one call after the other. Assumes nothing.
 use Rattle.std.specs.Prelude.{ℕ, List, [], ◌∷◌}
 use Rattle.plans.specs.Items.{Items}
-use Rattle.model.specs.Model.{Model, just_made, join_outcome, leave_outcome, give_outcome, withdraw_outcome, joined, left, given, withdrawn}
+use Rattle.model.specs.Model.{Model, join_outcome, leave_outcome, give_outcome, withdraw_outcome, joined, left, given, withdrawn}
 use Rattle.model.specs.Question.{asked, least_asked}
 use Rattle.model.specs.declared.call.Call.{Call}
 use Rattle.model.specs.declared.call.Call.TheVariants.{Join, Leave, Give, Withdraw, Quick, Walked, Least}

@@ -1,5 +1,6 @@
 //! What the access book means: grants, refusals, calls and answers, and in specs/ the model that is kept from the calls'
 //! arguments alone. The book is held to these definitions; nothing here knows of tables or of memory.
+#![tactic(auto)]
 
 pub mod answer;
 pub mod answering;

@@ -1,5 +1,7 @@
 //! Two crews wait for their carrier. Both have the same yes, the same no and the same majority rule. The yes reaches crew one over
 //! lines of two and of three memberships, and crew two over two lines of two. Every line counts, so both get their carrier.
+#![tactic(auto)]
+
 use anyhow::anyhow;
 use book::Book;
 use model::answer::Answer;

@@ -1,10 +1,10 @@
 -- The equipment table after an accepted item. Assumes nothing.
-use Rattle.std.proofs.Common.{◌≡◌, ℕ, ◌+◌, ◌<◌, ◌≤◌, Bool, true, false, cond, not, ◌&&◌, eqb, ltb, leb, List, [], ◌∷◌, ◌++◌, length, set, Option, sym, refl, ap, ◌∙◌, subst, ⊎_elim, arith, get_or-set_other, get_or-set_same}
+use Rattle.std.proofs.Common.{◌≡◌, ℕ, ◌+◌, ◌<◌, ◌≤◌, true, false, not, ◌&&◌, eqb, ltb, leb, List, [], length, set, Option, sym, ap, ◌∙◌, subst, ⊎_elim, arith, get_or-set_other, get_or-set_same}
 use Rattle.std.proofs.lemmas.Bool.Decides.{nat_tests}
 use Rattle.std.proofs.lemmas.Bool.{and_from, lt-ltb, eq-eqb, ne_eqb, le-leb, not_from_false, cond-true, cond-false, cases_order}
 use Rattle.std.specs.List.{AllByRecursion as All}
 use Rattle.plans.specs.declared.place.Place.{Place}
-use Rattle.plans.specs.Items.{Items, tallest, height_of}
+use Rattle.plans.specs.Items.{tallest, height_of}
 use Rattle.plans.specs.Equipment.{both, blank, place_at, containers_at, height_at, equipment, all_below, twice, good_place, Good}
 use Rattle.plans.specs.Filling.{with_item, some_unknown}
 use Rattle.plans.specs.Heights.{tallest_same, all_same}

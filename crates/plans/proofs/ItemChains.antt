@@ -1,8 +1,7 @@
 -- How many item chains there are. Assumes nothing.
-use Rattle.std.proofs.Common.{◌≡◌, ℕ, zero, suc, ◌+◌, ◌*◌, ◌^◌, ◌<◌, ◌≤◌, Bool, true, false, cond, eqb, List, [], ◌∷◌, map, length, sum_by, sym, refl, ap, ◌∙◌, subst, mul-le-mul_right, arith}
+use Rattle.std.proofs.Common.{◌≡◌, ℕ, zero, suc, ◌^◌, ◌≤◌, Bool, true, false, cond, eqb, List, [], ◌∷◌, map, length, sum_by, sym, refl, ◌∙◌, mul-le-mul_right, arith}
 use mathlib.Core.List.Memᴰ
 use lib.ListN.{length-map}
-use Rattle.std.specs.List.{AllByRecursion as All}
 use Rattle.std.proofs.ByRecursion.{sum_by_le}
 use Rattle.lists.specs.Lists.{Listed, sum_below}
 use Rattle.lists.proofs.Sums.{sum_same, sum_zero, sum_has, sum_le}

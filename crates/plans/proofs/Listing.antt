@@ -3,9 +3,9 @@ use Rattle.std.proofs.Common.{◌≡◌, ℕ, zero, suc, Bool, true, false, cond
 use mathlib.Core.List.Memᴰ
 use mathlib.Core.List.{tail-eq_of_cons-eq}
 use Rattle.std.proofs.lemmas.Bool.{eqb-true, eq-eqb}
-use Rattle.lists.specs.Lists.{Listed, Once, join_all}
+use Rattle.lists.specs.Lists.{Listed, Once}
 use Rattle.plans.specs.Items.{Items, Lawful, item_chains}
-use Rattle.plans.specs.Runs.{contains, ItemChain, itself, inside, items_of}
+use Rattle.plans.specs.Runs.{ItemChain, itself, inside, items_of}
 use Rattle.plans.proofs.Joined.{joined_cases, joined_has, once_joined, once_map, some_listed, listed_some}
 
 -- a chain of no container, where the two ends are equal

@@ -1,16 +1,14 @@
 -- One item's chains passed up to its containers. Assumes nothing.
-use Rattle.std.proofs.Common.{◌≡◌, ℕ, zero, suc, ◌+◌, ◌*◌, ◌^◌, ◌<◌, ◌≤◌, Bool, true, false, cond, eqb, List, [], length, get_or, drop, Some, None, sum_by, sym, refl, ap, ◌∙◌, ⊎_elim, mul-zero, zero-add, zero-mul, mul-one, mul-add, add-one, arith, pow_mono}
-use Rattle.std.specs.List.{AllByRecursion as All, slice_get}
+use Rattle.std.proofs.Common.{◌≡◌, ℕ, zero, suc, ◌+◌, ◌*◌, ◌^◌, ◌<◌, ◌≤◌, Bool, true, false, cond, eqb, List, length, get_or, drop, Some, None, sum_by, sym, refl, ap, ◌∙◌, mul-zero, zero-add, zero-mul, mul-one, mul-add, add-one, arith, pow_mono}
+use Rattle.std.specs.List.{slice_get}
 use Rattle.std.proofs.ByRecursion.{All-get_or}
 use Rattle.std.proofs.lemmas.List.Sums.{sum_by-drop_more}
-use Rattle.std.proofs.lemmas.List.{drop_all, get_or_past}
+use Rattle.std.proofs.lemmas.List.{drop_all}
 use Rattle.std.proofs.lemmas.Option.{slice_get-get_or}
-use Rattle.std.proofs.lemmas.Bool.{eq-eqb, ne_eqb, cases_lt, cases_Bool, cond-true, cond-false}
-use Rattle.lists.specs.Lists.{sum_below}
+use Rattle.std.proofs.lemmas.Bool.{eq-eqb, cond-true}
 use Rattle.plans.specs.Items.{Items, Lawful, item_chains}
-use Rattle.plans.specs.Counts.{row_at, entry, Full, CountsItems}
 use Rattle.plans.specs.Above.{Lengths, times, ahead, Passing, Passed, Lengthened}
-use Rattle.plans.proofs.ItemChains.{chains_step, chains_start, chains_few, none_longer}
+use Rattle.plans.proofs.ItemChains.{chains_start, chains_few}
 use Rattle.plans.proofs.FirstStep.{first_step, none_ahead, none_left}
 
 -- how often b is among what is left, one container on

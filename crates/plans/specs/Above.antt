@@ -1,5 +1,5 @@
 -- How far the count of item chains has come: the items are passed from the highest number down. Assumes nothing.
-use Rattle.std.specs.Prelude.{◌≡◌, ℕ, suc, ◌+◌, ◌*◌, ◌<◌, ◌≤◌, Bool, false, cond, List, length, drop, sum_by, ◌==◌, slice_index_or}
+use Rattle.std.specs.Prelude.{◌≡◌, ℕ, suc, ◌+◌, ◌*◌, ◌<◌, Bool, false, cond, List, length, drop, sum_by, ◌==◌, slice_index_or}
 use Rattle.lists.specs.Lists.{sum_below}
 use Rattle.plans.specs.Items.{Items, item_chains}
 use Rattle.plans.specs.Counts.{entry, Full}

@@ -1,5 +1,5 @@
 -- The channel plan. Assumes nothing.
-use Rattle.std.specs.Prelude.{ℕ, ◌/◌, Bool, cond, ◌&&◌, List, [], ◌∷◌, nat_lt}
+use Rattle.std.specs.Prelude.{ℕ, ◌/◌, cond, ◌&&◌, List, [], ◌∷◌, nat_lt}
 use Rattle.plans.specs.Items.{Items}
 
 -- an item above 1 lies in the item of half its number, the fraction dropped

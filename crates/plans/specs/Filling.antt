@@ -1,5 +1,5 @@
 -- Filling a plan item by item, in number order. Assumes nothing.
-use Rattle.std.specs.Prelude.{◌≡◌, ℕ, Bool, true, false, cond, not, ◌&&◌, ◌||◌, List, [], ◌∷◌, length, Ok, Err, Option, Result, ◌==◌, nat_lt}
+use Rattle.std.specs.Prelude.{ℕ, Bool, true, false, cond, not, ◌||◌, List, [], ◌∷◌, length, Ok, Err, Option, Result, ◌==◌, nat_lt}
 use Rattle.lists.specs.Lists.{keep, below, some}
 use Rattle.plans.specs.declared.refusal.EquipmentRefusal.{EquipmentRefusal}
 use Rattle.plans.specs.declared.refusal.EquipmentRefusal.TheVariants.{NotNext, BadContainer, TooHigh}

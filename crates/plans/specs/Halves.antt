@@ -1,12 +1,12 @@
 -- The channel plan keeps the laws of a plan, and an item's height is the place of its leading binary digit. Assumes nothing.
-use Rattle.std.specs.Prelude.{◌≡◌, ℕ, zero, suc, ◌*◌, ◌/◌, ◌^◌, ◌<◌, ◌≤◌, max, Bool, true, false, cond, ◌&&◌, List, [], ◌∷◌, length, nat_lt, refl}
+use Rattle.std.specs.Prelude.{◌≡◌, ℕ, zero, suc, ◌*◌, ◌/◌, ◌^◌, ◌<◌, ◌≤◌, true, false, ◌&&◌, List, [], ◌∷◌, length, nat_lt, refl}
 use Rattle.std.proofs.Common.{sym, subst, ◌∙◌, arith}
 use mathlib.Core.List.Memᴰ
 use Rattle.std.proofs.lemmas.Bool.Decides.{nat_tests}
 use Rattle.std.proofs.lemmas.Bool.{cond_both, and_parts, ltb-true}
 use Rattle.std.specs.List.{AllByRecursion as All}
 use Rattle.lists.specs.Lists.{Once}
-use Rattle.plans.specs.Items.{Items, Lawful, tallest, rise, height_of}
+use Rattle.plans.specs.Items.{Lawful, tallest, rise, height_of}
 use Rattle.plans.specs.Channels.{halves, channels}
 use Rattle.plans.specs.Heights.{height_step, no_containers_flat}
 

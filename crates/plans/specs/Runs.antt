@@ -1,5 +1,5 @@
 -- Item chains one by one, and what a height says of them. Assumes nothing.
-use Rattle.std.specs.Prelude.{◌≡◌, ℕ, zero, suc, ◌≤◌, Bool, true, List, [], ◌∷◌, nat_eq}
+use Rattle.std.specs.Prelude.{◌≡◌, ℕ, suc, ◌≤◌, Bool, true, List, [], ◌∷◌, nat_eq}
 use Rattle.lists.specs.Lists.{some}
 use Rattle.plans.specs.Items.{Items}
 

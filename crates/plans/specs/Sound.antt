@@ -1,15 +1,13 @@
 -- The equipment table keeps the laws of a plan. Assumes nothing.
-use Rattle.std.specs.Prelude.{◌≡◌, ℕ, zero, suc, ◌<◌, ◌≤◌, max, Bool, true, false, cond, not, ◌&&◌, List, [], ◌∷◌, ◌++◌, length, Some, None, Option, ◌==◌, nat_le, nat_lt, refl}
-use Rattle.std.proofs.Common.{sym, ap, subst, ◌∙◌, ⊎_elim, arith}
+use Rattle.std.specs.Prelude.{◌≡◌, ℕ, zero, suc, ◌<◌, ◌≤◌, true, false, not, List, [], ◌∷◌, length, Some, None, Option, ◌==◌, nat_le, nat_lt, refl}
+use Rattle.std.proofs.Common.{sym, ap, ◌∙◌, ⊎_elim, arith}
 use mathlib.Core.List.Memᴰ
-use Rattle.std.proofs.lemmas.Bool.Decides.{nat_tests}
 use Rattle.std.proofs.lemmas.Bool.{cond_both, and_parts, ltb-true, ltb-false, lt-ltb, eqb-true, eqb-false, leb-true, not-true, cond-true, cond-false, cases_lt}
-use Rattle.std.specs.Option.{option_to_list}
 use Rattle.std.specs.List.{AllByRecursion as All}
 use Rattle.lists.specs.Lists.{Once}
 use Rattle.plans.specs.declared.place.Place.{Place}
-use Rattle.plans.specs.Items.{Items, Lawful, tallest, height_of}
-use Rattle.plans.specs.Equipment.{both, blank, place_at, containers_at, height_at, equipment, all_below, twice, good_place, Good}
+use Rattle.plans.specs.Items.{Lawful, tallest, height_of}
+use Rattle.plans.specs.Equipment.{both, place_at, containers_at, height_at, equipment, all_below, twice, Good}
 use Rattle.plans.specs.Heights.{height_step, tallest_same, all_same}
 
 both_few : (a b : Option ℕ) → length (both a b) ≤ 2

@@ -1,4 +1,5 @@
 //! Plans of items: which items are known, in which containers each lies, and the item chains that they form.
+#![tactic(auto)]
 
 mod channels;
 mod counting;

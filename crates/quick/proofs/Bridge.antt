@@ -1,5 +1,5 @@
 -- The counts of a listing, from what is read of the tables. Assumes nothing.
-use Rattle.std.proofs.Common.{◌≡◌, ℕ, ◌+◌, ◌*◌, ◌<◌, ◌≤◌, Bool, true, false, cond, not, ◌&&◌, ◌||◌, eqb, ltb, ◌⊎◌, List, [], ◌∷◌, length, get_or, sum_by, sym, refl, ap, ◌∙◌, ap₂, inl, inr, arith}
+use Rattle.std.proofs.Common.{◌≡◌, ℕ, ◌+◌, ◌*◌, ◌<◌, ◌≤◌, Bool, true, false, cond, not, ◌&&◌, ◌||◌, eqb, ltb, ◌⊎◌, List, [], ◌∷◌, get_or, sum_by, sym, refl, ap, ◌∙◌, ap₂, inl, inr, arith}
 use Rattle.std.specs.List.{AllByRecursion as All}
 use Rattle.std.proofs.ByRecursion.{All-weaker}
 use Rattle.std.proofs.lemmas.List.{get_or_past}
@@ -24,7 +24,7 @@ use Rattle.model.specs.Counted.{Lengths, above_by, labelled_by, labels, listed_l
 use Rattle.model.specs.declared.grant.Grant.{Grant}
 use Rattle.model.proofs.Bounds.{all_below, counted_far}
 use Rattle.model.proofs.Counting.{counted_default, counted_signed}
-use Rattle.quick.specs.Sums.{RowLike, defaults_below}
+use Rattle.quick.specs.Sums.{defaults_below}
 
 sum_by_same_on : {A : Type 0} (f g : A → ℕ) (xs : List A) → All (λ x. f x ≡ g x) xs → sum_by f xs ≡ sum_by g xs
 sum_by_same_on f g [] a = refl

@@ -1,5 +1,5 @@
 -- What one grant gives, and what many do. Assumes nothing.
-use Rattle.std.proofs.Common.{◌≡◌, ℕ, ◌+◌, ◌*◌, ◌<◌, ◌≤◌, Bool, true, false, cond, ◌&&◌, ◌||◌, eqb, List, [], ◌∷◌, length, get_or, take, sum_by, sym, refl, ap, ◌∙◌, ap₂, mul-le-mul_right, mul-zero, arith}
+use Rattle.std.proofs.Common.{◌≡◌, ℕ, ◌+◌, ◌*◌, ◌<◌, ◌≤◌, Bool, true, false, cond, ◌&&◌, eqb, List, length, get_or, take, sym, refl, ap, ◌∙◌, mul-le-mul_right, mul-zero, arith}
 use Rattle.std.proofs.ByRecursion.{All-from_get_or, All-get_or, sum_by_le}
 use Rattle.std.proofs.lemmas.List.Sums.{sum_by-take-le}
 use Rattle.std.proofs.lemmas.Bool.{and_from, and_left, and_right, cond_both, cond-false, cond-true, eq-eqb, ne_eqb}

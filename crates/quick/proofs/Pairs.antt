@@ -1,8 +1,8 @@
 -- Pairs of an account chain and an item chain, added up length by length. Assumes nothing.
-use Rattle.std.proofs.Common.{◌≡◌, ℕ, zero, suc, ◌+◌, ◌-◌, ◌*◌, ◌<◌, ◌≤◌, Bool, true, false, cond, ◌&&◌, eqb, ltb, leb, ◌≢◌, ◌⊎◌, List, length, get_or, set, sym, refl, ap, ◌∙◌, inl, inr, mul-le-mul, zero-mul, arith, length-set, get_or-set_other, get_or-set_same}
+use Rattle.std.proofs.Common.{◌≡◌, ℕ, ◌+◌, ◌-◌, ◌*◌, ◌<◌, ◌≤◌, cond, ◌&&◌, eqb, ltb, leb, ◌⊎◌, List, length, get_or, set, sym, ap, ◌∙◌, inl, inr, mul-le-mul, zero-mul, arith, get_or-set_other, get_or-set_same}
 use Rattle.std.proofs.lemmas.Bool.{and_from, and_left, and_right, cases_eq, cases_lt, cond-false, cond-true, eq-eqb, le-leb, le-ltb, lt-leb, lt-ltb, ne_eqb}
 use Rattle.lists.specs.Lists.{sum_below}
-use Rattle.lists.proofs.Sums.{sum_bound, sum_more, sum_one, sum_same, sum_swap, sum_zero}
+use Rattle.lists.proofs.Sums.{sum_bound, sum_one, sum_same, sum_swap, sum_zero}
 use Rattle.model.specs.Counted.{products}
 use Rattle.quick.specs.Sums.{reached, shifted}
 

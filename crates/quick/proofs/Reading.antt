@@ -1,5 +1,5 @@
 -- Rows of chain counts, read off a sound table. Assumes nothing.
-use Rattle.std.proofs.Common.{◌≡◌, ℕ, ◌+◌, ◌*◌, ◌<◌, ◌≤◌, Bool, true, false, cond, not, ◌&&◌, ◌||◌, eqb, ltb, ◌⊎◌, List, [], ◌∷◌, map, length, get_or, sym, refl, ap, ◌∙◌, ap₂, inl, inr, arith}
+use Rattle.std.proofs.Common.{◌≡◌, ℕ, ◌+◌, ◌*◌, ◌<◌, ◌≤◌, Bool, cond, ◌||◌, eqb, ltb, ◌⊎◌, List, [], ◌∷◌, map, length, get_or, sym, refl, ap, ◌∙◌, inl, inr, arith}
 use Rattle.std.specs.List.{range_with_len}
 use Rattle.std.proofs.lemmas.List.FromFn.{fill_by_all, get_or-map-range_with_len}
 use Rattle.std.proofs.lemmas.List.{get_or_past}
@@ -12,7 +12,7 @@ use Rattle.chains.proofs.Told.{many_none}
 use Rattle.plans.specs.Counts.{entry, row_at}
 use Rattle.table.specs.Tables.{SoundTable, members_in}
 use Rattle.table.specs.declared.tables.Table.{Table}
-use Rattle.model.specs.Counted.{Lengths, above_by, products}
+use Rattle.model.specs.Counted.{above_by, products}
 
 module _ (n : ℕ) (E : Members) (a s : ℕ) where
   pub row_entry : (k : ℕ) → k < 8 → get_or (row_of n E a s) k 0 ≡ count n E a s k

@@ -1,5 +1,6 @@
 //! The quick question: the marks that reach an account, read off the table of chain counts. An inner layer, whose calls require
 //! a sound table and grants that fit.
+#![tactic(auto)]
 
 mod arriving;
 mod asking;

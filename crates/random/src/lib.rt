@@ -1,4 +1,5 @@
 //! Charts and calls at random: sizes and shapes, items, lent memory, and calls, the same in every run.
+#![tactic(auto)]
 
 pub mod adding;
 pub mod calling;

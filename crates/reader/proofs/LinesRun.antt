@@ -1,11 +1,10 @@
 -- A list run line by line: what one line does to the output that is still to come. Assumes nothing.
-use Rattle.std.proofs.Common.{◌≡◌, ℕ, ◌+◌, ◌<◌, ◌≤◌, List, [], ◌∷◌, ◌++◌, length, Some, None, Ok, Err, Result, sym, refl, ap, ◌∙◌, ap₂, arith}
+use Rattle.std.proofs.Common.{◌≡◌, ℕ, ◌+◌, ◌<◌, List, [], ◌∷◌, ◌++◌, length, Some, None, Ok, Err, Result, sym, refl, ap, ◌∙◌, ap₂, arith}
 use Rattle.reader.specs.declared.faults.ListFault.{ListFault}
 use Rattle.lines.specs.declared.line.Line.{Line}
 use Rattle.output.specs.declared.outcome.Outcome.{Outcome}
 use Rattle.output.specs.declared.outcome.Outcome.TheVariants.{Faulty}
-use Rattle.lines.specs.Lines.{line_of}
-use Rattle.reader.specs.Lists.{first_of, numbered, one_more, said_behind, tail}
+use Rattle.reader.specs.Lists.{first_of, one_more, said_behind, tail}
 use Rattle.output.specs.Output.{output_line}
 use Rattle.reader.specs.Sessions.{Session, lines_output, outcome_of, session_after}
 

@@ -16,7 +16,6 @@ use Rattle.model.specs.Question.{asked}
 use Rattle.model.specs.Refusals.{refusal_number}
 use Rattle.model.specs.declared.answer.Answer.{Answer}
 use Rattle.model.specs.declared.refusal.Refusal.{Refusal}
-use Rattle.lines.specs.declared.faults.LineFault.{LineFault}
 use Rattle.reader.specs.declared.faults.ListFault.{ListFault}
 use Rattle.lines.specs.declared.line.Line.{Line}
 use Rattle.lines.specs.declared.line.Line.TheVariants.{Join, Leave, Give, Withdraw, Ask, Equip, Choose}

@@ -1,4 +1,5 @@
 //! Access lists: a reader that goes from line to line of a text, and the run of a whole list.
+#![tactic(auto)]
 
 pub mod faults;
 pub mod list;

@@ -21,7 +21,7 @@ fn output(rt: HostRuntime) -> Result<(), Fail> {
     push_line(&mut out, 99999, answered)?;
     assert_eq!(rt;
         out.as_slice(),
-        b"    1  0  0\n    9  2  0\n   12 18  1\n99999  0  0 +            2 104498155008\n"
+        b"    1  0  0\n    9  2  0\n   12 18  1\n99999  0  0 +            2 104498155008\n".as_slice()
     );
     Ok(())
 }
@@ -63,6 +63,6 @@ fn longest_list(rt: HostRuntime) -> Result<(), Fail> {
     assert!(rt; out.len() == 57_000 * 12);
     text.push(b'\n')?;
     let refused = run_list(text.as_slice(), rt.alloc())?;
-    assert_eq!(rt; refused.as_slice(), b"    0 21  0\n");
+    assert_eq!(rt; refused.as_slice(), b"    0 21  0\n".as_slice());
     Ok(())
 }

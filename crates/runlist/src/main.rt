@@ -1,4 +1,6 @@
 //! Runs the access list on standard input, and writes what its lines come to on standard output.
+#![tactic(auto)]
+
 use reader::running::run_list;
 use std::io::{Read, Write};
 

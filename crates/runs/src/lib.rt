@@ -1,4 +1,5 @@
 //! Lists of calls on a book, held to whole runs of the model.
+#![tactic(auto)]
 
 mod calls;
 

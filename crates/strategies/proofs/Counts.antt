@@ -1,10 +1,10 @@
 -- Rows that count a list of arrivals have its numbers of votes. Assumes nothing.
-use Rattle.std.proofs.Common.{◌≡◌, ℕ, ◌+◌, ◌<◌, ◌≤◌, ◌⊎◌, List, [], length, get_or, Some, None, Option, sym, refl, ap, ◌∙◌, inl, inr, arith, MatchOption}
+use Rattle.std.proofs.Common.{◌≡◌, ℕ, ◌+◌, ◌<◌, ◌≤◌, ◌⊎◌, List, [], Some, None, Option, sym, ap, ◌∙◌, inl, inr, arith, MatchOption}
 use Rattle.std.proofs.lemmas.List.{get_or_past}
 use Rattle.std.proofs.lemmas.Bool.{cases_lt}
 use Rattle.lists.specs.Lists.{sum_below}
 use Rattle.strategies.specs.Resolve.{votes, chosen, tally}
-use Rattle.strategies.specs.Rows.{counted, row_at, CountsOf, share, votes_at, any_at}
+use Rattle.strategies.specs.Rows.{row_at, CountsOf, share, votes_at, any_at}
 use Rattle.strategies.specs.declared.marks.Sign.{Sign}
 use Rattle.strategies.specs.declared.marks.Sign.TheVariants.{Plus, Minus}
 use Rattle.strategies.specs.declared.marks.Mark.{Mark}
@@ -12,8 +12,7 @@ use Rattle.strategies.specs.declared.marks.Mark.TheVariants.{Signed, Default}
 use Rattle.strategies.specs.declared.marks.Arrival.{Arrival}
 use Rattle.strategies.specs.declared.rows.Rows.{Rows}
 use Rattle.strategies.specs.declared.strategy.DefaultRule.{DefaultRule}
-use Rattle.strategies.specs.declared.strategy.Locality.{Locality}
-use Rattle.strategies.specs.declared.strategy.Locality.TheVariants.{Anywhere, Nearest, Farthest}
+use Rattle.strategies.specs.declared.strategy.Locality.TheVariants.{Nearest, Farthest}
 use Rattle.lists.proofs.Sums.{sum_same}
 use Rattle.strategies.proofs.Tallies.{tally_at, tally_sum, tally_votes, share_zero, no_votes, tally_nearest, tally_farthest}
 

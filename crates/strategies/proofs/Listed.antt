@@ -1,10 +1,8 @@
 -- A list of arrivals for any rows. Assumes nothing.
-use Rattle.std.proofs.Common.{◌≡◌, ℕ, zero, suc, ◌+◌, ◌*◌, ◌<◌, ◌≤◌, Bool, true, false, cond, ◌&&◌, eqb, ◌⊎◌, List, [], ◌∷◌, ◌++◌, length, get_or, sym, refl, ap, ◌∙◌, inl, inr, arith}
-use Rattle.std.proofs.lemmas.Bool.{cases_eq, eq-eqb, ne_eqb}
+use Rattle.std.proofs.Common.{◌≡◌, ℕ, zero, suc, ◌+◌, ◌*◌, ◌<◌, Bool, true, false, ◌&&◌, eqb, List, [], ◌∷◌, ◌++◌, length, get_or, refl, ap, ◌∙◌, arith}
+use Rattle.std.proofs.lemmas.Bool.{eq-eqb, ne_eqb}
 use Rattle.lists.specs.Lists.{keep}
-use Rattle.strategies.specs.Resolve.{same_sign}
-use Rattle.strategies.specs.Rows.{same_mark, counted, row_at, CountsOf}
-use Rattle.strategies.specs.declared.marks.Sign.{Sign}
+use Rattle.strategies.specs.Rows.{same_mark, counted, CountsOf}
 use Rattle.strategies.specs.declared.marks.Sign.TheVariants.{Plus, Minus}
 use Rattle.strategies.specs.declared.marks.Mark.{Mark}
 use Rattle.strategies.specs.declared.marks.Mark.TheVariants.{Signed, Default}

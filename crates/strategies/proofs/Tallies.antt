@@ -1,7 +1,7 @@
 -- How many votes there are at each distance, and where the least and the greatest distance are. Assumes nothing.
-use Rattle.std.proofs.Common.{◌≡◌, ℕ, ◌+◌, ◌<◌, ◌≤◌, Bool, true, false, cond, ◌&&◌, eqb, ◌⊎◌, List, [], ◌∷◌, ◌++◌, length, sym, refl, ap, ◌∙◌, inl, inr, arith}
+use Rattle.std.proofs.Common.{◌≡◌, ℕ, ◌+◌, ◌<◌, ◌≤◌, Bool, true, false, cond, ◌&&◌, eqb, ◌⊎◌, List, [], ◌∷◌, length, sym, refl, ap, ◌∙◌, inl, inr, arith}
 use Rattle.std.proofs.lemmas.Bool.{cases_lt, eq-eqb}
-use Rattle.lists.specs.Lists.{keep, join_all, sum_below}
+use Rattle.lists.specs.Lists.{keep, sum_below}
 use Rattle.strategies.specs.Resolve.{Vote, same_sign, vote_of, votes, distances, least_of, greatest_of, chosen, tally}
 use Rattle.strategies.specs.Rows.{same_mark, counted, share}
 use Rattle.strategies.specs.declared.marks.Sign.{Sign}
@@ -11,8 +11,7 @@ use Rattle.strategies.specs.declared.marks.Mark.TheVariants.{Signed, Default}
 use Rattle.strategies.specs.declared.marks.Arrival.{Arrival}
 use Rattle.strategies.specs.declared.strategy.DefaultRule.{DefaultRule}
 use Rattle.strategies.specs.declared.strategy.DefaultRule.TheVariants.{Dropped, Counts}
-use Rattle.strategies.specs.declared.strategy.Locality.{Locality}
-use Rattle.strategies.specs.declared.strategy.Locality.TheVariants.{Anywhere, Nearest, Farthest}
+use Rattle.strategies.specs.declared.strategy.Locality.TheVariants.{Nearest, Farthest}
 use Rattle.lists.proofs.Sums.{sum_add, sum_zero, sum_same}
 use Rattle.lists.proofs.Kept.{one, sum_at, kept_cons, kept_append, kept_none, kept_twice}
 use Rattle.strategies.proofs.Hits.{hits, hits_head, least_hit, least_le, greatest_hit, greatest_le}

@@ -34,10 +34,12 @@ fn two_ways_count_twice_and_marks_stay_apart(rt: HostRuntime) {
     start[0].plus = one_at_0();
     start[4].minus = one_at_0();
     let rows = rows_of_arrivals(&counts, 5, &start, 3);
-    assert_eq!(rt; rows.plus.counts[2], 2);
-    assert_eq!(rt; rows.plus.counts[1], 0);
-    assert_eq!(rt; rows.minus.counts[1], 1);
-    assert_eq!(rt; rows.minus.counts[2], 0);
+    let plus = rows.plus.counts;
+    let minus = rows.minus.counts;
+    assert_eq!(rt; plus[2], 2);
+    assert_eq!(rt; plus[1], 0);
+    assert_eq!(rt; minus[1], 1);
+    assert_eq!(rt; minus[2], 0);
 }
 
 #[test]

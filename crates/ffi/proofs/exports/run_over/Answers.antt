@@ -2,7 +2,7 @@ use Rattle.std.proofs.Common.{◌≡◌, ℕ, min, List, ◌++◌, map, length, 
 use Rattle.chains.specs.Table.{size, table_of}
 use Rattle.model.specs.declared.grant.Grant.{Grant}
 use Rattle.table.specs.Tables.{Largest}
-use Rattle.book.specs.Books.{accounts_of, capacity_in, counts_in, shown}
+use Rattle.book.specs.Books.{accounts_of, capacity_in, counts_in}
 use Rattle.ffi.specs.Replies.{grant_record}
 use Rattle.ffi.specs.Runs.{Standing, all_replies, at_first, run, standing}
 use Rattle.ffi.proofs.Largest.{largest_in_all}

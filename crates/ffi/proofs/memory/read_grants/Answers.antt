@@ -1,4 +1,4 @@
-use Rattle.std.proofs.Common.{◌≡◌, ℕ, ◌+◌, ◌<◌, List, [], ◌∷◌, ◌++◌, map, length, get_or, take, drop, sym, ap, ◌∙◌, ap₂, arith}
+use Rattle.std.proofs.Common.{◌≡◌, ℕ, ◌+◌, List, [], ◌∷◌, ◌++◌, map, length, get_or, drop, sym, ◌∙◌, ap₂, arith}
 use Rattle.std.proofs.lemmas.List.{drop-set-lt, map_more, take_all, take-append-drop, take_more_set}
 use Rattle.model.specs.declared.grant.Grant.{Grant}
 use Rattle.ffi.specs.declared.records.GrantRecord.{GrantRecord}

@@ -1,4 +1,4 @@
-use Rattle.std.proofs.Common.{◌≡◌, [], sym, ◌∙◌, arith, lit≤}
+use Rattle.std.proofs.Common.{[], arith, lit≤}
 use Rattle.strategies.proofs.OneMore.{counts_capped}
 use Rattle.marklist.proofs.TextLines.{begins, goes_on, stops, ends}
 use Rattle.marklist.proofs.counting.count_marks.Goals as goal

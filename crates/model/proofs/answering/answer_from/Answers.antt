@@ -1,4 +1,4 @@
-use Rattle.std.proofs.Common.{sym, arith}
+use Rattle.std.proofs.Common.{arith}
 use Rattle.strategies.specs.declared.marks.Sign.TheVariants.{Plus, Minus}
 use Rattle.model.proofs.FromRows.{answers, tally_few}
 use Rattle.model.proofs.answering.answer_from.Goals as goal

@@ -1,4 +1,4 @@
-use Rattle.std.proofs.Common.{◌≡◌, ℕ, List, [], length, get_or, replicate, ap, ◌∙◌}
+use Rattle.std.proofs.Common.{ℕ, List, [], length, get_or, replicate, ap, ◌∙◌}
 use lib.ListN.{length-replicate, get_or-replicate}
 use Rattle.plans.proofs.counting.no_counts.Goals as goal
 

@@ -1,4 +1,4 @@
-use Rattle.std.proofs.Common.{◌≡◌, ℕ, ◌+◌, ◌<◌, Bool, true, List, length, set, sym, subst, arith}
+use Rattle.std.proofs.Common.{ℕ, ◌+◌, ◌<◌, Bool, true, List, length, set, sym, subst, arith}
 use Rattle.plans.specs.Counts.{entry, Full}
 use Rattle.plans.specs.Above.{Passing, Reached}
 use Rattle.plans.proofs.PassUp.{passing_start, passing_end, passing_fits, passing_more, passed_over, lower, not_past}

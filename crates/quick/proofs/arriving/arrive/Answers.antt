@@ -1,4 +1,4 @@
-use Rattle.std.proofs.Common.{◌≡◌, ℕ, ◌+◌, ◌<◌, ◌≤◌, true, false, ◌&&◌, eqb, ltb, List, length, get_or, take, sym, refl, ap, ◌∙◌, arith}
+use Rattle.std.proofs.Common.{◌≡◌, ℕ, ◌+◌, ◌<◌, false, ◌&&◌, eqb, ltb, List, length, get_or, take, sym, ap, ◌∙◌, arith}
 use Rattle.std.proofs.ByRecursion.{All-get_or}
 use Rattle.std.proofs.lemmas.List.{take_all}
 use Rattle.std.proofs.lemmas.Bool.{and_left, and_right, cond-true, lt-ltb, ne_eqb}
@@ -7,7 +7,7 @@ use Rattle.plans.specs.Counts.{entry, row_at, row_read}
 use Rattle.table.specs.Tables.{members_in}
 use Rattle.strategies.specs.declared.marks.Sign.{Sign}
 use Rattle.strategies.specs.declared.marks.Sign.TheVariants.{Plus, Minus}
-use Rattle.model.specs.Counted.{Lengths, above_by, labelled_by, of_grant, of_grants}
+use Rattle.model.specs.Counted.{above_by, labelled_by, of_grant, of_grants}
 use Rattle.model.specs.declared.grant.Grant.{Grant}
 use Rattle.model.proofs.Bounds.{fit_accounts, fit_items}
 use Rattle.quick.proofs.Adding.{no_chains}

@@ -1,4 +1,4 @@
-use Rattle.std.proofs.Common.{◌≡◌, ◌∙◌, arith}
+use Rattle.std.proofs.Common.{◌∙◌, arith}
 use Rattle.table.specs.Tables.{members_in}
 use Rattle.plans.specs.Counts.{entry}
 use Rattle.strategies.specs.declared.rows.Rows.{Rows}

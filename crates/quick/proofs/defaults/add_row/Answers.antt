@@ -1,4 +1,4 @@
-use Rattle.std.proofs.Common.{◌≡◌, ℕ, ◌+◌, ◌<◌, ◌≤◌, get_or, take, sym, ap, ◌∙◌, arith, length-set}
+use Rattle.std.proofs.Common.{ℕ, ◌+◌, get_or, ap, ◌∙◌, arith, length-set}
 use Rattle.quick.proofs.Adding.{front_past, row_more}
 use Rattle.std.proofs.lemmas.List.{take_all}
 use Rattle.quick.proofs.defaults.add_row.Goals as goal

@@ -1,4 +1,4 @@
-use Rattle.std.proofs.Common.{◌≡◌, ℕ, ◌+◌, ◌<◌, ◌≤◌, get_or, sym, ap, ◌∙◌, arith}
+use Rattle.std.proofs.Common.{◌≡◌, ℕ, ◌+◌, get_or, ap, ◌∙◌, arith}
 use Rattle.lists.specs.Lists.{sum_below}
 use Rattle.lists.proofs.Sums.{sum_more}
 use Rattle.quick.specs.Sums.{at_of, shifted}

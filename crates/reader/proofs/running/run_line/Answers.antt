@@ -1,4 +1,4 @@
-use Rattle.std.proofs.Common.{◌≡◌, Ok, sym, refl, ap, ◌∙◌}
+use Rattle.std.proofs.Common.{Ok, sym, ap, ◌∙◌}
 use Rattle.reader.specs.Lists.{lines_left, unread}
 use Rattle.reader.specs.Standing.{session}
 use Rattle.reader.proofs.LinesRun.{counted, ended, fault_output, fewer, is_fault, is_line, line_output, none_output}

@@ -1,4 +1,4 @@
-use Rattle.std.proofs.Common.{◌≡◌, ℕ, List, ◌++◌, vec_items, sym, ap, ◌∙◌, append_assoc}
+use Rattle.std.proofs.Common.{ℕ, List, ◌++◌, vec_items, sym, ap, ◌∙◌, append_assoc}
 use Rattle.reader.specs.Lists.{unread}
 use Rattle.output.specs.Output.{output_line}
 use Rattle.reader.specs.Sessions.{lines_output}

@@ -1,4 +1,4 @@
-use Rattle.std.proofs.Common.{◌≡◌, ℕ, ltb, List, ◌++◌, length, sym, ap, ◌∙◌}
+use Rattle.std.proofs.Common.{ℕ, ltb, List, ◌++◌, length, sym, ap, ◌∙◌}
 use Rattle.std.proofs.lemmas.Bool.{cond-false, cond-true, le-ltb, lt-ltb}
 use Rattle.output.specs.declared.outcome.Outcome.TheVariants.{Refused}
 use Rattle.reader.specs.Lists.{list_of}

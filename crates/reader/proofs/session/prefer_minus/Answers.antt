@@ -1,4 +1,4 @@
-use Rattle.std.proofs.Common.{◌≡◌, is_some, refl, ap}
+use Rattle.std.proofs.Common.{is_some, refl, ap}
 use Rattle.reader.specs.Sessions.{prefer_minus}
 use Rattle.reader.proofs.session.prefer_minus.Goals as goal
 

@@ -7,9 +7,8 @@ use Rattle.chains.proofs.Laid.{laid_at, table_long}
 use Rattle.model.specs.Model.{Model, just_made}
 use Rattle.model.specs.Runs.{run, run_replies}
 use Rattle.model.specs.declared.call.Reply.{Reply}
-use Rattle.model.specs.declared.grant.Grant.{Grant}
 use Rattle.table.specs.Tables.{Largest, members_in}
-use Rattle.book.specs.Books.{accounts_of, capacity_in, counts_in, records_in, shown}
+use Rattle.book.specs.Books.{accounts_of, capacity_in, counts_in, shown}
 use Rattle.runs.specs.Records.{record_run}
 use Rattle.model.proofs.Circles.{circles_in_runs}
 use Rattle.book.proofs.Asked.{table_sound}

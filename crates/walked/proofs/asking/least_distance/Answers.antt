@@ -1,6 +1,5 @@
 use Rattle.std.proofs.Common.{sym, ◌∙◌, subst}
 use mathlib.Core.Path.{fun_ext}
-use Rattle.strategies.specs.Rows.{counted}
 use Rattle.strategies.specs.declared.marks.Mark.TheVariants.{Signed}
 use Rattle.model.specs.Counted.{listed_lengths}
 use Rattle.model.specs.Question.{listing}

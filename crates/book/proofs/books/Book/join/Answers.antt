@@ -1,4 +1,4 @@
-use Rattle.std.proofs.Common.{◌≡◌, ℕ, drop, sym, refl, ap, ◌∙◌}
+use Rattle.std.proofs.Common.{ℕ, drop, sym, refl, ap, ◌∙◌}
 use Rattle.chains.specs.Table.{size}
 use Rattle.model.specs.Model.{Model, join_outcome, joined}
 use Rattle.model.proofs.Circles.{circle_in}

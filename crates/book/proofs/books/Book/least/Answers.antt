@@ -1,6 +1,5 @@
 use Rattle.std.proofs.Common.{◌≡◌, List, Err, ap, ◌∙◌, subst}
 use Rattle.std.proofs.lemmas.Result.{err_from_is_err_and}
-use Rattle.model.specs.Model.{Model}
 use Rattle.model.specs.declared.grant.Grant.{Grant}
 use Rattle.table.specs.Tables.{members_in}
 use Rattle.book.specs.Books.{accounts_of, shown}

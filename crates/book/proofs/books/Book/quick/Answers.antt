@@ -1,4 +1,4 @@
-use Rattle.std.proofs.Common.{◌≡◌, ◌≤◌, List, Err, sym, ap, ◌∙◌, subst, arith}
+use Rattle.std.proofs.Common.{List, Err, ap, ◌∙◌, subst, arith}
 use Rattle.std.proofs.lemmas.Result.{err_from_is_err_and, IfOk-from_err}
 use Rattle.strategies.specs.Rows.{CountsOf}
 use Rattle.strategies.specs.declared.marks.Arrival.{Arrival}

@@ -1,4 +1,4 @@
-use Rattle.std.proofs.Common.{ℕ, ◌<◌, Some, None, Option, ap, ◌∙◌, arith, MatchOption}
+use Rattle.std.proofs.Common.{Some, None, Option, ap, ◌∙◌, MatchOption}
 use Rattle.std.proofs.lemmas.List.{get_or-take}
 use Rattle.model.specs.Grants.{is_for}
 use Rattle.model.proofs.Standing.{none_front, some_front}

@@ -1,4 +1,4 @@
-use Rattle.std.proofs.Common.{◌≡◌, ℕ, min, not, List, ◌++◌, length, drop, sym, ap, ◌∙◌, ap₂, arith, rules}
+use Rattle.std.proofs.Common.{◌≡◌, ℕ, min, not, List, ◌++◌, drop, sym, ap, ◌∙◌, ap₂, arith, rules}
 use Rattle.std.proofs.lemmas.List.{length-take-le, take-append-drop}
 use Rattle.model.specs.declared.grant.Grant.{Grant}
 use Rattle.model.specs.Grants.{is_for, misfit, others, repeated}
