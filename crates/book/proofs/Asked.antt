@@ -44,7 +44,7 @@ module _ (n : ℕ) (M : Model) (I : Items) (s o r : ℕ) (t : Sign) where
 
 -- what every book's invariant says, in the model's words
 pub table_sound : (b : Book) → SoundTable b.table
-table_sound b = record { fits = b.fits; counts = b.counts; short = b.short; few = b.few; groups = b.groups }
+table_sound b = record { fits = b.fits; counts = b.counts; short = b.short; few = b.few }
 
 pub standing : (b : Book) → Standing (accounts_of b) (capacity_in b) (shown b)
 standing b = record {

@@ -1,5 +1,5 @@
 -- A membership that can be joined is not refused, and a grant that fits is not either. Assumes nothing.
-use Rattle.std.proofs.Common.{◌≡◌, ℕ, ◌<◌, Bool, true, false, not, ◌||◌, ltb, ◌⊎◌, List, [], ◌∷◌, length, Ok, sym, refl, ap, ◌∙◌, inl, inr, true≢false}
+use Rattle.std.proofs.Common.{◌≡◌, ℕ, ◌<◌, Bool, true, false, not, ◌||◌, ltb, ◌⊎◌, [], ◌∷◌, length, Ok, inl, inr}
 use Rattle.std.proofs.lemmas.Bool.{cases_Bool, lt-ltb, not_from_true, or_from, or_parts}
 use Rattle.lists.specs.Lists.{some}
 use Rattle.chains.specs.Chains.{Joinable, Sound, add}

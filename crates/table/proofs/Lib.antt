@@ -1,4 +1,3 @@
 pub mod Sound
-pub mod Groups
 pub mod Joins
 pub mod Leaves

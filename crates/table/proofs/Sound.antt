@@ -1,10 +1,10 @@
 -- What the counts of a sound table say of the memberships that it shows. Assumes nothing.
-use Rattle.std.proofs.Common.{◌≡◌, ℕ, zero, suc, ◌+◌, ◌-◌, ◌*◌, ◌<◌, Bool, true, false, cond, ◌&&◌, eqb, length, get_or, drop, sym, refl, ap, ◌∙◌, ap₂, arith}
+use Rattle.std.proofs.Common.{◌≡◌, ℕ, zero, suc, ◌+◌, ◌-◌, ◌*◌, ◌<◌, Bool, true, false, cond, ◌&&◌, eqb, length, drop, sym, refl, ap, ◌∙◌, ap₂, arith}
 use Rattle.std.proofs.lemmas.List.{get_or_default, length-drop, length-take-le, same_lists}
 use Rattle.std.proofs.lemmas.Bool.{and_right, cond-false, ne_eqb}
 use Rattle.lists.proofs.Sums.{sum_same}
 use Rattle.chains.specs.Chains.{Members, Within, Short, NoChain, no_members, count, past}
-use Rattle.chains.specs.Tests.{groups_of, leads, too_long, too_many}
+use Rattle.chains.specs.Tests.{leads, too_long, too_many}
 use Rattle.chains.proofs.Added.{count_start}
 use Rattle.chains.specs.Table.{row_of}
 use Rattle.chains.proofs.Laid.{laid, laid_at, row_at, row_long}
@@ -26,9 +26,8 @@ shows t F w h = shown_is t.accounts F t.counts.now w h
 
 pub sound_with : (t : Table) (F : Members) → FitsIn t → Within t.accounts F →
     ((a s k : ℕ) → a < t.accounts → s < t.accounts → k < 8 → count_in t a s k ≡ count t.accounts F a s k) →
-    too_long t.accounts F ≡ false → too_many t.accounts F ≡ false →
-    length t.groups ≡ 64 → ((a : ℕ) → a < t.accounts → get_or t.groups a 0 ≡ groups_of t.accounts F a) → SoundTable t
-sound_with t F fits w h short few places groups =
+    too_long t.accounts F ≡ false → too_many t.accounts F ≡ false → SoundTable t
+sound_with t F fits w h short few =
     let n = t.accounts in
     let is = shows t F w h in
     record {
@@ -36,7 +35,6 @@ sound_with t F fits w h short few places groups =
       counts = laid n (members_in t) t.counts.now fits.1 (λ a s k ha hs hk. h a s k ha hs hk ∙ ap (λ (G : Members). count n G a s k) (sym is));
       short = ap (λ (G : Members). too_long n G) is ∙ short;
       few = ap (λ (G : Members). too_many n G) is ∙ few;
-      groups = (places, λ a ha. groups a ha ∙ ap (λ (G : Members). groups_of n G a) (sym is));
     }
 
 -- without memberships

@@ -1,8 +1,8 @@
 -- A table over lent memory: the memberships that it shows, and when it is sound. Assumes nothing.
-use Rattle.std.specs.Prelude.{◌≡◌, ℕ, ◌<◌, ◌≤◌, false, List, length, take, drop, slice_index}
+use Rattle.std.specs.Prelude.{◌≡◌, ℕ, ◌≤◌, false, List, length, take, drop}
 use Rattle.chains.specs.Chains.{Members}
 use Rattle.chains.specs.Table.{entry, shown_members, size, table_of}
-use Rattle.chains.specs.Tests.{groups_of, too_long, too_many}
+use Rattle.chains.specs.Tests.{too_long, too_many}
 use Rattle.table.specs.declared.tables.Table.{Table}
 pub use Rattle.counts.specs.Rooms.{Largest}
 
@@ -22,14 +22,9 @@ behind t = drop (size t.accounts) t.counts.now
 abbrev pub FitsIn : Table → Type 0
 FitsIn t = (t.accounts ≤ 64) × (size t.accounts ≤ length t.counts.now)
 
--- there is a place for each account, which holds how many groups the account is a member of
-abbrev pub GroupsIn : Table → Type 0
-GroupsIn t = (length t.groups ≡ 64) × ((a : ℕ) → a < t.accounts → slice_index t.groups a ≡ groups_of t.accounts (members_in t) a)
-
--- the counts and the numbers of groups are those of the memberships that the table shows, no chain is longer than 7, and no count passes 99,999
+-- the counts are those of the memberships that the table shows, no chain is longer than 7, and no count passes 99,999
 pub record SoundTable (t : Table) : Type 0 where
   pub fits : FitsIn t
   pub counts : take (size t.accounts) t.counts.now ≡ table_of t.accounts (members_in t)
   pub short : too_long t.accounts (members_in t) ≡ false
   pub few : too_many t.accounts (members_in t) ≡ false
-  pub groups : GroupsIn t

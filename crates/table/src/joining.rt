@@ -50,7 +50,6 @@ impl<'a> Table<'a> {
     {
         let n = self.accounts;
         change_all(self.counts, n, p, c, Change::Add);
-        self.groups[c] += 1;
     }
 
     /// Ends the membership of `c` in `p`, which stands.
@@ -66,6 +65,5 @@ impl<'a> Table<'a> {
     {
         let n = self.accounts;
         change_all(self.counts, n, p, c, Change::Strike);
-        self.groups[c] -= 1;
     }
 }

@@ -11,13 +11,11 @@ use counts::reading::{count_at, leads_by, row_at};
 
 /// The chain counts of `accounts` accounts, in memory that the caller lends.
 ///
-/// The count of the chains of length k from a down to s stands at place (a * accounts + s) * 8 + k. Beside the counts the table
-/// keeps how many groups each account is a member of.
+/// The count of the chains of length k from a down to s stands at place (a * accounts + s) * 8 + k.
 #[derive(Drop)]
 pub struct Table<'a> {
     pub(crate) counts: &'a mut [u32],
     pub(crate) accounts: usize,
-    pub(crate) groups: [u8; 64],
 }
 
 impl<'a> Table<'a> {
@@ -31,11 +29,7 @@ impl<'a> Table<'a> {
     {
         let accounts = largest(counts.len());
         clear(counts, accounts);
-        Table {
-            counts,
-            accounts,
-            groups: [0; 64],
-        }
+        Table { counts, accounts }
     }
 
     /// How many accounts there are.
@@ -89,7 +83,12 @@ impl<'a> Table<'a> {
         requires account { a < self.now.accounts }
         ensures { result ≡ groupless self.now.accounts (members_in self.now) a }
     {
-        self.groups[a] == 0
+        for group in 0..self.accounts {
+            if self.stands(group, a) {
+                return false;
+            }
+        }
+        true
     }
 
     /// Does a chain, of whatever length, lead from `a` down to `s`?

@@ -1,4 +1,4 @@
-use Rattle.std.proofs.Common.{◌≡◌, sym, ap, ◌∙◌, true≢false}
+use Rattle.std.proofs.Common.{sym, ap, ◌∙◌, true≢false}
 use Rattle.model.specs.Model.{Model}
 use Rattle.book.specs.Books.{accounts_of, capacity_in, shown}
 use Rattle.saved.proofs.Joined.{given_ok}

@@ -1,9 +1,8 @@
-use Rattle.std.proofs.Common.{◌≡◌, ℕ, ◌<◌, ◌≤◌, Bool, false, List, [], ◌∷◌, ◌++◌, length, get_or, take, Ok, sym, refl, ap, ◌∙◌, subst, true≢false, arith}
+use Rattle.std.proofs.Common.{◌≡◌, ℕ, ◌<◌, false, List, [], ◌∷◌, ◌++◌, length, get_or, take, sym, refl, ap, ◌∙◌, subst, true≢false, arith}
 use Rattle.std.proofs.lemmas.List.{length-take-le, take_all, take_more}
 use Rattle.strategies.specs.declared.marks.Sign.TheVariants.{Plus}
 use Rattle.lists.specs.Lists.{some}
 use Rattle.model.specs.Grants.{is_for, misfit}
-use Rattle.model.specs.Model.{give_outcome}
 use Rattle.model.specs.declared.grant.Grant.{Grant}
 use Rattle.table.specs.declared.tables.Table.{Table}
 use Rattle.book.specs.Books.{accounts_of, capacity_in, shown}

@@ -1,4 +1,4 @@
-use Rattle.std.proofs.Common.{◌≡◌, refl, ◌∙◌}
+use Rattle.std.proofs.Common.{refl, ◌∙◌}
 use Rattle.chains.specs.Table.{shown_members}
 use Rattle.chains.proofs.Shows.{shown_within}
 use Rattle.saved.proofs.Before.{before_line}

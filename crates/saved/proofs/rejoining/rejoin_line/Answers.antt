@@ -1,4 +1,4 @@
-use Rattle.std.proofs.Common.{◌≡◌, ℕ, ◌<◌, Bool, true, cond, ltb, List, Ok, sym, refl, ap, ◌∙◌, subst, ap₂, true≢false, arith}
+use Rattle.std.proofs.Common.{◌≡◌, ℕ, ◌<◌, Bool, true, cond, ltb, List, Ok, sym, refl, ap, ◌∙◌, subst, ap₂, true≢false}
 use Rattle.chains.specs.Chains.{Joinable, Members, Sound, add}
 use Rattle.chains.specs.Table.{entry, shown_members}
 use Rattle.chains.proofs.Held.{joinable_part, part_sound}

@@ -1,6 +1,6 @@
-use Rattle.std.proofs.Common.{◌≡◌, ℕ, Bool, List, length, take, sym, refl, ap, ◌∙◌, subst, true≢false, arith}
+use Rattle.std.proofs.Common.{◌≡◌, ℕ, List, length, take, sym, refl, ap, ◌∙◌, subst, true≢false, arith}
 use Rattle.lists.specs.Lists.{some}
-use Rattle.chains.specs.Chains.{Members, Sound}
+use Rattle.chains.specs.Chains.{Sound}
 use Rattle.chains.specs.Table.{Holds, shown_members, size, table_of}
 use Rattle.chains.specs.Tests.{too_long, too_many}
 use Rattle.chains.proofs.Limits.{sound_by_tests}
@@ -9,7 +9,7 @@ use Rattle.table.specs.Tables.{members_in}
 use Rattle.table.specs.declared.tables.Table.{Table}
 use Rattle.model.specs.Grants.{misfit, repeated}
 use Rattle.model.specs.Model.{Model}
-use Rattle.book.specs.Books.{accounts_of, capacity_in, counts_in, shown}
+use Rattle.book.specs.Books.{accounts_of, counts_in}
 use Rattle.book.specs.declared.books.Book.{Book}
 use Rattle.book.proofs.Asked.{standing}
 use Rattle.saved.specs.Saved.{before}

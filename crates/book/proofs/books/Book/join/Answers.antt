@@ -16,7 +16,7 @@ returns c =
     let n = accounts_of b in
     let step = c.join_in.ensures in
     let t = c.join_in.new.table in
-    let sound : SoundTable b.table = record { fits = b.fits; counts = b.counts; short = b.short; few = b.few; groups = b.groups } in
+    let sound : SoundTable b.table = record { fits = b.fits; counts = b.counts; short = b.short; few = b.few } in
     let p = c.args.group in
     let m = c.args.member in
     let after = shown_joined n (shown b) p m c.join_in.result (members_in t) step.answer step.after in

@@ -15,7 +15,7 @@ pub invariant_of-result : goal.invariant_of-result
 invariant_of-result c =
     let t = c.make-table.ensures.sound in
     let g = c.none-grants.ensures.kept c.make-table.result.accounts in
-    record { fits = t.fits; counts = t.counts; short = t.short; few = t.few; groups = t.groups; room = g.room; fitting = g.fitting; once = g.once }
+    record { fits = t.fits; counts = t.counts; short = t.short; few = t.few; room = g.room; fitting = g.fitting; once = g.once }
 
 pub returns : goal.returns
 returns c =

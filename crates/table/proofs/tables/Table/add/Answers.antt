@@ -1,9 +1,7 @@
-use Rattle.std.proofs.Common.{◌+◌, get_or, refl, ◌∙◌, arith, length-set, rules}
-use mir.Facts.{Fits-below}
+use Rattle.std.proofs.Common.{refl, ◌∙◌, arith, rules}
 use Rattle.chains.specs.Chains.{add}
 use Rattle.chains.proofs.Sets.{add_within}
 use Rattle.table.specs.Tables.{members_in}
-use Rattle.table.proofs.Groups.{number_added, number_few}
 use Rattle.table.proofs.Joins.{count_then}
 use Rattle.table.proofs.Sound.{free_chain, free_counts, is_low, sound_with, within}
 use Rattle.chains.proofs.Laid.{behind_same}
@@ -36,17 +34,10 @@ returns c =
     record {
       sound = sound_with _ F (search rules) w (λ a s k ha hs hk.
           c.change_all.ensures.sums a s k ha hs hk
-          ∙ count_then t sound p m c.requires.group c.requires.member c.requires.free c.requires.new a s k ha hs hk) c.requires.short c.requires.few
-          (length-set t.groups m (get_or t.groups m 0 + 1) ∙ sound.groups.0) (number_added t sound p m c.requires.group c.requires.member c.requires.new);
+          ∙ count_then t sound p m c.requires.group c.requires.member c.requires.free c.requires.new a s k ha hs hk) c.requires.short c.requires.few;
       same = refl;
       after = shown_is t.accounts F c.change_all.new.counts w (λ a s k ha hs hk.
           c.change_all.ensures.sums a s k ha hs hk
           ∙ count_then t sound p m c.requires.group c.requires.member c.requires.free c.requires.new a s k ha hs hk);
       memory = behind_same _ _ _ (search rules) c.change_all.ensures.behind;
     }
-
--- an account is a member of 64 groups at most
-pub overflow_add-self : goal.overflow_add-self
-overflow_add-self c =
-    let few = number_few c.args.self.now c.requires.sound c.args.p c.args.c c.requires.group c.requires.member in
-    Fits-below {n = 65} tt (omega arith)

@@ -1,7 +1,5 @@
-use Rattle.std.proofs.Common.{ℕ, sym, ◌∙◌, arith, rules}
-use lib.ListN.{get_or-replicate, length-replicate}
+use Rattle.std.proofs.Common.{◌∙◌, rules}
 use Rattle.chains.specs.Chains.{no_members}
-use Rattle.chains.proofs.Groups.{groups_no_members}
 use Rattle.chains.proofs.Held.{empty_sound}
 use Rattle.chains.proofs.Limits.{short_passes}
 use Rattle.table.proofs.Sound.{alone_counts, sound_with}
@@ -17,8 +15,7 @@ returns c =
     record {
       accounts = c.largest-accounts.ensures;
       sound = sound_with _ no_members (search rules) empty.within (λ a s k ha hs hk. c.clear.ensures.within a s k ha hs hk ∙ alone_counts n a s k)
-          (short_passes n no_members empty.within empty.short) (many_no n no_members (λ a s k ha hs hk. empty.few a s k))
-          (length-replicate {A = ℕ} 64 0) (λ a ha. get_or-replicate 64 a 0 0 (omega (arith, c.largest-accounts.ensures.few)) ∙ sym (groups_no_members n a));
+          (short_passes n no_members empty.within empty.short) (many_no n no_members (λ a s k ha hs hk. empty.few a s k));
       after = shown_is n no_members c.clear.new.counts empty.within (λ a s k ha hs hk. c.clear.ensures.within a s k ha hs hk ∙ alone_counts n a s k);
       memory = behind_same _ _ _ (search rules) c.clear.ensures.behind;
     }

@@ -1,7 +1,6 @@
-use Rattle.std.proofs.Common.{◌-◌, get_or, refl, ◌∙◌, arith, length-set, rules}
+use Rattle.std.proofs.Common.{refl, arith, rules}
 use Rattle.chains.specs.Chains.{strike}
 use Rattle.table.specs.Tables.{members_in}
-use Rattle.table.proofs.Groups.{number_some, number_struck}
 use Rattle.table.proofs.Leaves.{back_free, count_left, left_few, left_short, left_within}
 use Rattle.table.proofs.Sound.{free_counts, is_low, sound_with}
 use Rattle.chains.proofs.Laid.{behind_same}
@@ -34,8 +33,7 @@ returns c =
       sound = sound_with _ F (search rules) w (λ a s k ha hs hk.
           let sum = c.change_all.ensures.sums a s k ha hs hk in
           let left = count_left t sound p m hp hm stands a s k ha hs hk in
-          omega arith) (left_short t sound p m hp hm stands) (left_few t sound p m hp hm stands)
-          (length-set t.groups m (get_or t.groups m 0 - 1) ∙ sound.groups.0) (number_struck t sound p m hp hm stands);
+          omega arith) (left_short t sound p m hp hm stands) (left_few t sound p m hp hm stands);
       same = refl;
       after = shown_is t.accounts F c.change_all.new.counts w (λ a s k ha hs hk.
           let sum = c.change_all.ensures.sums a s k ha hs hk in
@@ -43,6 +41,3 @@ returns c =
           omega arith);
       memory = behind_same _ _ _ (search rules) c.change_all.ensures.behind;
     }
-
-pub overflow_sub-self : goal.overflow_sub-self
-overflow_sub-self c = number_some c.args.self.now c.requires.sound c.args.p c.args.c c.requires.group c.requires.member c.requires.stands
