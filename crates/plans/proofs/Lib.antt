@@ -10,6 +10,5 @@ pub mod FirstStep
 pub mod Entries
 pub mod Longer
 pub mod PassUp
-mod Reaching
 pub mod First
 pub mod Counted

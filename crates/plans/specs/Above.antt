@@ -1,5 +1,5 @@
 -- How far the count of item chains has come: the items are passed from the highest number down. Assumes nothing.
-use Rattle.std.specs.Prelude.{◌≡◌, ℕ, suc, ◌+◌, ◌*◌, ◌<◌, Bool, false, cond, List, length, drop, sum_by, ◌==◌, slice_index_or}
+use Rattle.std.specs.Prelude.{◌≡◌, ℕ, suc, ◌+◌, ◌*◌, ◌<◌, cond, List, length, drop, sum_by, ◌==◌}
 use Rattle.lists.specs.Lists.{sum_below}
 use Rattle.plans.specs.Items.{Items, item_chains}
 use Rattle.plans.specs.Counts.{entry, Full}
@@ -36,8 +36,3 @@ pub record Lengthened (from to : ℕ) (L K : Lengths) : Type 0 where
 pub record Empty (t : List (List ℕ)) : Type 0 where
   pub full : Full t
   pub none : (b k : ℕ) → b < 256 → k < 8 → entry t b k ≡ 0
-
--- from an item that is not noted as reached no chain is counted
-pub record Reached (noted : List Bool) (L : Lengths) : Type 0 where
-  pub all : length noted ≡ 256
-  pub none : (b : ℕ) → b < 256 → slice_index_or noted b false ≡ false → (k : ℕ) → k < 8 → L b k ≡ 0

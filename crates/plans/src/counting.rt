@@ -1,9 +1,9 @@
 ghost use Rattle.std.specs.Prelude.{◌≡◌, ℕ, suc, ◌+◌, ◌<◌, ◌≤◌};
 ghost use Rattle.plans.specs.Counts.{entry, Full, CountsItems};
-ghost use Rattle.plans.specs.Above.{Empty, Lengthened, Passed, Reached};
+ghost use Rattle.plans.specs.Above.{Empty, Lengthened, Passed};
 ghost use Rattle.plans.specs.Laws.{FewBetweenTwo, FewToAnItem, ItemListingIsExact, NoLongerChain};
 
-use crate::counts::ItemCounts;
+use crate::counts::{ItemCounts, any_chain};
 use crate::plan::Plan;
 
 // The most containers that a chain has.
@@ -21,27 +21,18 @@ fn lengthen(counts: &mut [[u32; 8]; 256], from: usize, to: usize)
     }
 }
 
-// Passes the chains from an item on to its containers, if any leads down from it, and notes that some then do from them.
-fn pass_up<P: Plan>(
-    plan: &P,
-    counts: &mut [[u32; 8]; 256],
-    reached: &mut [bool; 256],
-    o: u32,
-    item: u32,
-)
-    requires counts { (item < 256) × ((Full counts.old) × (Passed (P.Plan.meaning plan.now) o (item + 1) (entry counts.old))) }
-    requires reached { Reached reached.old (entry counts.old) }
+// Passes the chains from an item on to its containers.
+fn pass_up<P: Plan>(plan: &P, counts: &mut [[u32; 8]; 256], o: u32, item: u32)
+    requires { (item < 256) × ((Full counts.old) × (Passed (P.Plan.meaning plan.now) o (item + 1) (entry counts.old))) }
     ensures full { Full counts.new }
     ensures passed { Passed (P.Plan.meaning plan.now) o item (entry counts.new) }
-    ensures reached { Reached reached.new (entry counts.new) }
 {
-    if !reached[item as usize] {
+    if !any_chain(&counts[item as usize]) {
         return;
     }
     for place in 0..plan.containers(item) {
         if let Some(container) = plan.container(item, place) {
             lengthen(counts, item as usize, container as usize);
-            reached[container as usize] = true;
         }
     }
 }
@@ -53,21 +44,20 @@ fn no_counts() -> [[u32; 8]; 256]
     [[0; 8]; 256]
 }
 
-// Counts the chains that lead down to an item, in one pass over the items up to it, from the item downwards.
-fn count_to<P: Plan>(plan: &P, o: u32, counts: &mut [[u32; 8]; 256])
-    requires { Empty counts.old }
-    ensures full { Full counts.new }
-    ensures counted { CountsItems (P.Plan.meaning plan.now) o counts.new }
+// The chains that lead down to an item, counted in one pass over the items up to it, from the item downwards.
+fn counts_to<P: Plan>(plan: &P, o: u32) -> [[u32; 8]; 256]
+    ensures full { Full result }
+    ensures counted { CountsItems (P.Plan.meaning plan.now) o result }
 {
+    let mut counts = no_counts();
     if o >= 256 {
-        return;
+        return counts;
     }
-    let mut reached = [false; 256];
     counts[o as usize][0] = 1;
-    reached[o as usize] = true;
     for item in (0..o + 1).rev() {
-        pass_up(plan, counts, &mut reached, o, item);
+        pass_up(plan, &mut counts, o, item);
     }
+    counts
 }
 
 /// How many chains of each length lead down to an item, from every item.
@@ -81,9 +71,7 @@ pub fn item_counts<P: Plan>(plan: &P, item: u32) -> ItemCounts
     ensures few { FewToAnItem }
     ensures between { FewBetweenTwo }
 {
-    let mut items = ItemCounts {
-        counts: no_counts(),
-    };
-    count_to(plan, item, &mut items.counts);
-    items
+    ItemCounts {
+        counts: counts_to(plan, item),
+    }
 }

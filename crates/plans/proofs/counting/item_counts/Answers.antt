@@ -23,12 +23,12 @@ few M lawful o = (λ items k. chains_few_together M lawful items k o, λ items l
 between : FewBetweenTwo
 between M lawful b o = (λ k. chains_few M lawful k b o, λ lengths. own_lengths_few M lawful lengths b o)
 
-pub invariant_of-items : goal.invariant_of-items
-invariant_of-items g c = record {
-  rows = c.count_to.ensures.full.rows;
-  wide = c.count_to.ensures.full.wide;
-  few = counts_few (g.P.Plan.meaning c.args.plan.now) (g.met.P.Plan.lawful c.args.plan.now) _ c.count_to.new.counts c.count_to.ensures.counted;
+pub invariant_of-result : goal.invariant_of-result
+invariant_of-result g c = record {
+  rows = c.counts_to.ensures.full.rows;
+  wide = c.counts_to.ensures.full.wide;
+  few = counts_few (g.P.Plan.meaning c.args.plan.now) (g.met.P.Plan.lawful c.args.plan.now) _ c.counts_to.result c.counts_to.ensures.counted;
 }
 
 pub returns : goal.returns
-returns g c = record { counted = c.count_to.ensures.counted; listed = exact; short = short; few = few; between = between }
+returns g c = record { counted = c.counts_to.ensures.counted; listed = exact; short = short; few = few; between = between }

@@ -1,6 +1,0 @@
-use Rattle.plans.specs.Counts.{entry, Full}
-use Rattle.plans.specs.Above.{Passed, Reached}
-use Rattle.plans.proofs.counting.count_to.Given as goal
-
-abbrev pub invariant-loop-item : goal.invariant-loop-item
-invariant-loop-item g l = Full l.counts × Passed (g.P.Plan.meaning l.plan) l.o l.item (entry l.counts) × Reached l.reached (entry l.counts)
