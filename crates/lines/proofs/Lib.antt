@@ -5,4 +5,4 @@ mod Pieces
 mod Groups
 mod Containers
 mod WrittenLines
-mod ReadBack
+pub mod ReadBack

@@ -1,6 +1,7 @@
 //! Reads an access list line by line.
 
 ghost use Rattle.std.specs.Prelude.{◌≡◌, ℕ, ◌+◌, ◌<◌, ◌≤◌, [], ◌∷◌, length, MatchOption, ◌≢◌, slice_index};
+ghost use Rattle.lines.specs.Laws.{OneSpelling};
 ghost use Rattle.reader.specs.Laws.{LinesAgain};
 ghost use Rattle.reader.specs.Lists.{with_number, list_of, first_of, tail, lines_left, unread, one_more};
 
@@ -37,11 +38,13 @@ fn at_line(number: usize, read: Result<Line, LineFault>) -> Result<Line, (usize,
 impl<'a> Reader<'a> {
     /// A reader that stands before the first line of the text.
     ///
-    /// The last clause is a law of the format: a text is its lines, each with a line feed behind it, of which the last may be missing.
+    /// The last two clauses are laws of the format: a text is its lines, each with a line feed behind it, of which the last may be
+    /// missing; and a line is read as what it says exactly if it is the one spelling of that.
     pub fn new(text: &'a [u8]) -> Reader<'a>
         ensures answer { unread result ≡ list_of text.now }
         ensures count { result.line ≡ 0 }
         ensures again { LinesAgain }
+        ensures spelling { OneSpelling }
     {
         Reader {
             text,
