@@ -2,8 +2,8 @@
 use Rattle.std.proofs.Common.{◌≡◌, ℕ, ◌+◌, ◌<◌, List, [], ◌∷◌, ◌++◌, length, get_or, take, sym, refl, ap, ◌∙◌, ap₂}
 use Rattle.std.proofs.lemmas.List.{take_more}
 use Rattle.runs.proofs.Running.{take_none}
-use Rattle.ffi.specs.declared.records.CallRecord.{CallRecord}
-use Rattle.ffi.specs.declared.records.ReplyRecord.{ReplyRecord}
+use Rattle.ffi.specs.declared.plain.CallRecord.{CallRecord}
+use Rattle.ffi.specs.declared.plain.ReplyRecord.{ReplyRecord}
 use Rattle.ffi.specs.Requests.{request_of}
 use Rattle.ffi.specs.Runs.{Standing, after, all_replies, reply_to, run}
 

@@ -5,7 +5,7 @@ use Rattle.strategies.specs.declared.marks.Sign.TheVariants.{Plus, Minus}
 use Rattle.model.specs.Model.{Model}
 use Rattle.model.specs.declared.grant.Grant.{Grant}
 use Rattle.saved.specs.Saved.{LeftByABook, said_by}
-use Rattle.ffi.specs.declared.records.GrantRecord.{GrantRecord}
+use Rattle.ffi.specs.declared.plain.GrantRecord.{GrantRecord}
 
 -- is the number of the sign none of the two?
 abbrev pub bad_sign : GrantRecord → Bool

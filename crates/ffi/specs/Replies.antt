@@ -2,15 +2,15 @@
 use Rattle.std.specs.Prelude.{ℕ, List, replicate, Some, None, Ok, Err, Option, Result}
 use Rattle.strategies.specs.declared.marks.Sign.{Sign}
 use Rattle.strategies.specs.declared.marks.Sign.TheVariants.{Plus, Minus}
-use Rattle.plans.specs.Refusals.{refusal_number as equipment-number}
+use Rattle.plans.specs.Refusals.{refusal_number as equipment_number}
 use Rattle.plans.specs.declared.refusal.EquipmentRefusal.{EquipmentRefusal}
 use Rattle.model.specs.Refusals.{refusal_number}
 use Rattle.model.specs.declared.answer.Answer.{Answer}
 use Rattle.model.specs.declared.call.Reply.{Reply}
 use Rattle.model.specs.declared.call.Reply.TheVariants.{Done, Answered, Distance}
 use Rattle.model.specs.declared.grant.Grant.{Grant}
-use Rattle.ffi.specs.declared.records.GrantRecord.{GrantRecord}
-use Rattle.ffi.specs.declared.records.ReplyRecord.{ReplyRecord}
+use Rattle.ffi.specs.declared.plain.GrantRecord.{GrantRecord}
+use Rattle.ffi.specs.declared.plain.ReplyRecord.{ReplyRecord}
 
 -- 0 is plus and 1 is minus
 abbrev pub sign_number : Sign → ℕ
@@ -67,7 +67,7 @@ reply_record (Distance (Err e)) = short_reply (refusal_number e) 0
 -- the record of what the equipment table gave
 abbrev pub equipment_record : Result (Unit {0}) EquipmentRefusal → ReplyRecord
 equipment_record (Ok u) = short_reply 0 0
-equipment_record (Err e) = short_reply (equipment-number e) 0
+equipment_record (Err e) = short_reply (equipment_number e) 0
 
 -- the record asks for nothing: an unknown kind, plan, sign or strategy
 abbrev pub no_call : ReplyRecord

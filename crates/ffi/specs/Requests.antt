@@ -4,7 +4,7 @@ use Rattle.strategies.specs.declared.marks.Sign.{Sign}
 use Rattle.strategies.specs.declared.marks.Sign.TheVariants.{Plus, Minus}
 use Rattle.model.specs.declared.call.Call.{Call}
 use Rattle.model.specs.declared.call.Call.TheVariants.{Join, Leave, Give, Withdraw, Quick, Walked, Least}
-use Rattle.ffi.specs.declared.records.CallRecord.{CallRecord}
+use Rattle.ffi.specs.declared.plain.CallRecord.{CallRecord}
 use Rattle.ffi.specs.declared.request.Request.{Request}
 use Rattle.ffi.specs.declared.request.Request.TheVariants.{OverChannels, OverEquipment, Equip}
 use Rattle.ffi.specs.Strategies.{strategy_with}

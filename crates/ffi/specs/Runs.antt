@@ -9,8 +9,8 @@ use Rattle.model.specs.Model.{Model, just_made}
 use Rattle.model.specs.Runs.{next, reply}
 use Rattle.book.specs.Books.{shown}
 use Rattle.book.specs.declared.books.Book.{Book}
-use Rattle.ffi.specs.declared.records.CallRecord.{CallRecord}
-use Rattle.ffi.specs.declared.records.ReplyRecord.{ReplyRecord}
+use Rattle.ffi.specs.declared.plain.CallRecord.{CallRecord}
+use Rattle.ffi.specs.declared.plain.ReplyRecord.{ReplyRecord}
 use Rattle.ffi.specs.declared.request.Request.{Request}
 use Rattle.ffi.specs.declared.request.Request.TheVariants.{OverChannels, OverEquipment, Equip}
 use Rattle.ffi.specs.Replies.{equipment_record, no_call, reply_record}

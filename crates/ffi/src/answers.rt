@@ -3,7 +3,7 @@
 ghost use Rattle.ffi.specs.Replies.{answer_reply, distance_number, equipment_record, grant_record, reply_record, short_reply, sign_number};
 ghost use Rattle.std.specs.Prelude.{◌≡◌};
 
-use crate::records::{GrantRecord, ReplyRecord};
+use crate::plain::{GrantRecord, ReplyRecord};
 use model::answer::Answer;
 use model::call::Reply;
 use model::grant::Grant;

@@ -8,7 +8,7 @@ ghost use Rattle.reader.specs.Sessions.{list_output};
 ghost use Rattle.table.specs.Tables.{Largest};
 
 use crate::memory::{MOST_COUNTS, MOST_GRANTS, copy_first, no_counts, no_grants, write_grants};
-use crate::records::{CallRecord, GrantRecord, ListRun, ReplyRecord, Run};
+use crate::plain::{CallRecord, GrantRecord, ListRun, ReplyRecord, Run};
 use crate::serving::serve_all;
 use book::Book;
 use model::grant::Grant;

@@ -4,10 +4,10 @@
 mod answers;
 mod exports;
 mod memory;
-mod records;
+mod plain;
 mod request;
 mod requests;
 mod serving;
 
 pub use exports::{ladle_make_and_run, ladle_run_list};
-pub use records::{CallRecord, GrantRecord, ListRun, ReplyRecord, Run};
+pub use plain::{CallRecord, GrantRecord, ListRun, ReplyRecord, Run};

@@ -6,7 +6,7 @@ ghost use Rattle.ffi.specs.Replies.{grant_record};
 ghost use Rattle.lists.specs.Lists.{some};
 
 use crate::answers::grant_record;
-use crate::records::GrantRecord;
+use crate::plain::GrantRecord;
 use model::grant::Grant;
 use strategies::marks::Sign;
 

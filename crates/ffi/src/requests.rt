@@ -4,7 +4,7 @@ ghost use Rattle.ffi.specs.Requests.{call_of, container_of, give_of, least_of, o
 ghost use Rattle.ffi.specs.Strategies.{strategy_with};
 ghost use Rattle.std.specs.Prelude.{◌≡◌};
 
-use crate::records::CallRecord;
+use crate::plain::CallRecord;
 use crate::request::Request;
 use model::call::Call;
 use model::grant::Grant;

@@ -6,7 +6,7 @@ ghost use Rattle.ffi.specs.Requests.{request_of};
 ghost use Rattle.ffi.specs.Runs.{after, all_replies, reply_to, run, standing};
 
 use crate::answers::{equipment_record, reply_record, short_reply};
-use crate::records::{CallRecord, ReplyRecord};
+use crate::plain::{CallRecord, ReplyRecord};
 use crate::request::Request;
 use crate::requests::request_of;
 use book::Book;

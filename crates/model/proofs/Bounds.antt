@@ -1,6 +1,6 @@
 -- No row of a listing is far, and there are not too many. Assumes nothing.
 use Rattle.std.proofs.Common.{◌≡◌, ℕ, zero, suc, ◌+◌, ◌<◌, ◌≤◌, Bool, true, false, cond, ◌&&◌, ◌||◌, eqb, ltb, List, [], ◌∷◌, map, length, refl, ◌∙◌, true≢false, arith, length-append}
-use Rattle.std.specs.List.{AllByRecursion as All}
+use Rattle.std.specs.List.{AllByRecursion}
 use Rattle.std.proofs.ByRecursion.{All-append, All-weaker, sum_by_le}
 use Rattle.std.proofs.lemmas.Bool.{and_right, ltb-false, ltb-true, ne_eqb, not-false, or_parts}
 use Rattle.lists.specs.Lists.{below, join_all, keep, some, sum_below}
@@ -19,19 +19,19 @@ use Rattle.model.specs.ListingLaws.{FewRows}
 use Rattle.model.specs.declared.grant.Grant.{Grant}
 use Rattle.model.proofs.GrantBounds.{chains_bound, grant_bound}
 
-pub all_of : {A : Type 0} (P : A → Type 0) → ((x : A) → P x) → (xs : List A) → All P xs
+pub all_of : {A : Type 0} (P : A → Type 0) → ((x : A) → P x) → (xs : List A) → AllByRecursion P xs
 all_of P f [] = tt
 all_of P f (x ∷ xs) = (f x, all_of P f xs)
 
-all_joined : {A B : Type 0} (P : B → Type 0) (f : A → List B) (xs : List A) → All (λ x. All P (f x)) xs → All P (join_all f xs)
+all_joined : {A B : Type 0} (P : B → Type 0) (f : A → List B) (xs : List A) → AllByRecursion (λ x. AllByRecursion P (f x)) xs → AllByRecursion P (join_all f xs)
 all_joined P f [] a = tt
 all_joined P f (x ∷ xs) a = All-append P (f x) (join_all f xs) a.0 (all_joined P f xs a.1)
 
-all_same : {A B : Type 0} (P : B → Type 0) (y : B) → P y → (xs : List A) → All P (map (λ x. y) xs)
+all_same : {A B : Type 0} (P : B → Type 0) (y : B) → P y → (xs : List A) → AllByRecursion P (map (λ x. y) xs)
 all_same P y h [] = tt
 all_same P y h (x ∷ xs) = (h, all_same P y h xs)
 
-pub all_below : (n : ℕ) → All (λ k. k < n) (below n)
+pub all_below : (n : ℕ) → AllByRecursion (λ k. k < n) (below n)
 all_below zero = tt
 all_below (suc n) =
     All-append (λ k. k < suc n) (below n) (n ∷ [])
@@ -40,39 +40,39 @@ all_below (suc n) =
 abbrev pub Near : Arrival → Type 0
 Near row = row.distance < 15
 
-chains_near : (n : ℕ) (E : Members) (a s : ℕ) (m : Mark) (more : ℕ) → more < 8 → All Near (over_chains n E a s m more)
+chains_near : (n : ℕ) (E : Members) (a s : ℕ) (m : Mark) (more : ℕ) → more < 8 → AllByRecursion Near (over_chains n E a s m more)
 unfolding over_chains
 chains_near n E a s m more short =
     all_joined Near (λ k. map (λ path. record { mark = m; distance = k + more }) (chains n E a s k)) (below 8)
-    (All-weaker (λ k. k < 8) (λ k. All Near (map (λ (path : List ℕ). record { mark = m; distance = k + more }) (chains n E a s k)))
+    (All-weaker (λ k. k < 8) (λ k. AllByRecursion Near (map (λ (path : List ℕ). record { mark = m; distance = k + more }) (chains n E a s k)))
     (λ k l. all_same Near (record { mark = m; distance = k + more }) (omega arith) (chains n E a s k)) (below 8) (all_below 8))
 
-grant_near : (n : ℕ) (E : Members) (I : Items) (s o r : ℕ) (g : Grant) → All Near (grant_arrivals n E I s o r g)
+grant_near : (n : ℕ) (E : Members) (I : Items) (s o r : ℕ) (g : Grant) → AllByRecursion Near (grant_arrivals n E I s o r g)
 unfolding grant_arrivals
 grant_near n E I s o r g = step (eqb g.right r)
   where
     each : (j : ℕ) → List Arrival
     each j = join_all (λ path. over_chains n E g.account s (Signed g.sign) j) (item_chains I g.item o j)
 
-    step : (t : Bool) → All Near (cond t (join_all each (below 8)) [])
+    step : (t : Bool) → AllByRecursion Near (cond t (join_all each (below 8)) [])
     step true =
         all_joined Near each (below 8)
-        (All-weaker (λ j. j < 8) (λ j. All Near (each j))
+        (All-weaker (λ j. j < 8) (λ j. AllByRecursion Near (each j))
         (λ j l. all_joined Near (λ (path : List ℕ). over_chains n E g.account s (Signed g.sign) j) (item_chains I g.item o j)
-        (all_of (λ path. All Near (over_chains n E g.account s (Signed g.sign) j))
+        (all_of (λ path. AllByRecursion Near (over_chains n E g.account s (Signed g.sign) j))
         (λ path. chains_near n E g.account s (Signed g.sign) j l) (item_chains I g.item o j)))
         (below 8) (all_below 8))
     step false = tt
 
 -- no row is listed at a distance of 15 or more
-pub listed_near : (n : ℕ) (M : Model) (I : Items) (s o r : ℕ) → All Near (listing n M I s o r)
+pub listed_near : (n : ℕ) (M : Model) (I : Items) (s o r : ℕ) → AllByRecursion Near (listing n M I s o r)
 unfolding listing default_marks
 listed_near n M I s o r =
     All-append Near (join_all (grant_arrivals n M.members I s o r) M.grants) (default_marks n M I s o r)
     (all_joined Near (grant_arrivals n M.members I s o r) M.grants
-    (all_of (λ g. All Near (grant_arrivals n M.members I s o r g)) (grant_near n M.members I s o r) M.grants))
+    (all_of (λ g. AllByRecursion Near (grant_arrivals n M.members I s o r g)) (grant_near n M.members I s o r) M.grants))
     (all_joined Near (λ a. over_chains n M.members a s Default 0) (keep (unmarked n M I o r) (below n))
-    (all_of (λ a. All Near (over_chains n M.members a s Default 0))
+    (all_of (λ a. AllByRecursion Near (over_chains n M.members a s Default 0))
     (λ a. chains_near n M.members a s Default 0 (omega arith)) (keep (unmarked n M I o r) (below n))))
 
 pub kept_le : {A : Type 0} (f : A → Bool) (xs : List A) → length (keep f xs) ≤ length xs
@@ -92,7 +92,7 @@ pub counted_far : (n : ℕ) (M : Model) (I : Items) (s o r : ℕ) (m : Mark) (d 
 unfolding counted
 counted_far n M I s o r m d far = none (listing n M I s o r) (listed_near n M I s o r)
   where
-    none : (rows : List Arrival) → All Near rows → length (keep (λ x. same_mark m x.mark && eqb x.distance d) rows) ≡ 0
+    none : (rows : List Arrival) → AllByRecursion Near rows → length (keep (λ x. same_mark m x.mark && eqb x.distance d) rows) ≡ 0
     none [] near = refl
     none (x ∷ xs) near =
         cond_false_length (same_mark m x.mark && eqb x.distance d) (and_right (same_mark m x.mark) (eqb x.distance d) (ne_eqb x.distance d (λ e. let l = near.0 in omega arith))) (none xs near.1)
@@ -104,7 +104,7 @@ counted_far n M I s o r m d far = none (listing n M I s o r) (listed_near n M I 
 
 -- the rows of a listing are few enough for any of their sums
 pub listed_few_in : (n : ℕ) (M : Model) (I : Items) → Lawful I → (s o r : ℕ) → s < n → n ≤ 64 → length M.grants ≤ 512 →
-    All (λ g. g.account < n) M.grants →
+    AllByRecursion (λ g. g.account < n) M.grants →
     ((a s k : ℕ) → a < n → s < n → k < 8 → count n M.members a s k ≤ 99999) →
     length (listing n M I s o r) ≤ 104498155008
 unfolding listing default_marks
@@ -126,14 +126,14 @@ listed_few_in n M I lawful s o r known small room held few =
     under false x h = omega arith
 
 -- grants that fit are to known accounts and on items up to 255
-pub fit_accounts : (n : ℕ) (gs : List Grant) → some (misfit n) gs ≡ false → All (λ g. g.account < n) gs
+pub fit_accounts : (n : ℕ) (gs : List Grant) → some (misfit n) gs ≡ false → AllByRecursion (λ g. g.account < n) gs
 fit_accounts n [] e = tt
 fit_accounts n (g ∷ gs) e =
     let both = or_parts (misfit n g) (some (misfit n) gs) e in
     let here = or_parts (unknown n g.account) (ltb 7 g.right || ltb 255 g.item) both.0 in
     (ltb-true g.account n (not-false (ltb g.account n) here.0), fit_accounts n gs both.1)
 
-pub fit_items : (n : ℕ) (gs : List Grant) → some (misfit n) gs ≡ false → All (λ g. g.item < 256) gs
+pub fit_items : (n : ℕ) (gs : List Grant) → some (misfit n) gs ≡ false → AllByRecursion (λ g. g.item < 256) gs
 fit_items n [] e = tt
 fit_items n (g ∷ gs) e =
     let both = or_parts (misfit n g) (some (misfit n) gs) e in

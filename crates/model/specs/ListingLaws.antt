@@ -1,6 +1,6 @@
 -- What counting a listing comes to. Assumes nothing.
 use Rattle.std.specs.Prelude.{◌≡◌, ℕ, ◌<◌, ◌≤◌, length}
-use Rattle.std.specs.List.{AllByRecursion as All}
+use Rattle.std.specs.List.{AllByRecursion}
 use Rattle.plans.specs.Items.{Items, Lawful}
 use Rattle.strategies.specs.Rows.{counted}
 use Rattle.strategies.specs.declared.marks.Sign.{Sign}
@@ -22,7 +22,7 @@ DefaultRows = (n : ℕ) (M : Model) (I : Items) (s o r d : ℕ) →
 
 -- no row is farther than 14
 abbrev pub NearRows : Type 0
-NearRows = (n : ℕ) (M : Model) (I : Items) (s o r : ℕ) → All (λ row. row.distance < 15) (listing n M I s o r)
+NearRows = (n : ℕ) (M : Model) (I : Items) (s o r : ℕ) → AllByRecursion (λ row. row.distance < 15) (listing n M I s o r)
 
 -- whatever calls can leave, at most 64 accounts and 512 grants: no listing has more rows than this
 abbrev pub FewRows : Type 0

@@ -2,7 +2,7 @@
 use Rattle.std.proofs.Common.{◌≡◌, ℕ, ◌+◌, ◌<◌, ◌≤◌, true, false, not, ◌&&◌, eqb, ltb, leb, List, [], length, set, Option, sym, ap, ◌∙◌, subst, ⊎_elim, arith, get_or-set_other, get_or-set_same}
 use Rattle.std.proofs.lemmas.Bool.Decides.{nat_tests}
 use Rattle.std.proofs.lemmas.Bool.{and_from, lt-ltb, eq-eqb, ne_eqb, le-leb, not_from_false, cond-true, cond-false, cases_order}
-use Rattle.std.specs.List.{AllByRecursion as All}
+use Rattle.std.specs.List.{AllByRecursion}
 use Rattle.plans.specs.declared.place.Place.{Place}
 use Rattle.plans.specs.Items.{tallest, height_of}
 use Rattle.plans.specs.Equipment.{both, blank, place_at, containers_at, height_at, equipment, all_below, twice, good_place, Good}
@@ -11,7 +11,7 @@ use Rattle.plans.specs.Heights.{tallest_same, all_same}
 use Rattle.plans.specs.Sound.{parts, all_below_true, height_kept}
 use Rattle.plans.proofs.Filled.{same_plan, known_below}
 
-good_same : (h h' : ℕ → ℕ) (item : ℕ) (p : Place) → All (λ c. h c ≡ h' c) (both p.first p.second) → good_place h item p ≡ good_place h' item p
+good_same : (h h' : ℕ → ℕ) (item : ℕ) (p : Place) → AllByRecursion (λ c. h c ≡ h' c) (both p.first p.second) → good_place h item p ≡ good_place h' item p
 good_same h h' item p e =
     ap (λ t. all_below item (both p.first p.second) && not (twice p.first p.second) && eqb p.height t && leb p.height 7)
     (tallest_same h h' (both p.first p.second) e)

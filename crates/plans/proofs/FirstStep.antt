@@ -1,6 +1,6 @@
 -- Item chains counted by their first step, from the top. Assumes nothing.
 use Rattle.std.proofs.Common.{◌≡◌, ℕ, zero, suc, ◌+◌, ◌*◌, ◌<◌, ◌≤◌, cond, eqb, List, [], ◌∷◌, length, drop, sum_by, sym, refl, ap, ◌∙◌, ap₂, one-mul, mul-zero, zero-mul, arith}
-use Rattle.std.specs.List.{AllByRecursion as All}
+use Rattle.std.specs.List.{AllByRecursion}
 use Rattle.std.proofs.ByRecursion.{All-weaker, All-drop}
 use Rattle.std.proofs.lemmas.List.Sums.{sum_by-cons}
 use Rattle.std.proofs.lemmas.Bool.{eq-eqb, ne_eqb, cond-false}
@@ -37,7 +37,7 @@ module _ (M : Items) (lawful : Lawful M) where
       sum_by_times (λ c. length (item_chains M i c k)) (times b (M.containers i)) (M.containers o)
       ∙ ap (λ z. z * times b (M.containers i)) (sym (chains_step M i o k)))
 
-times_none : (b : ℕ) (cs : List ℕ) → All (λ c. c < b) cs → times b cs ≡ 0
+times_none : (b : ℕ) (cs : List ℕ) → AllByRecursion (λ c. c < b) cs → times b cs ≡ 0
 unfolding times
 times_none b [] a = refl
 times_none b (c ∷ cs) a =

@@ -2,7 +2,7 @@
 use Rattle.std.proofs.Common.{◌≡◌, ℕ, Bool, true, false, ◌||◌, eqb, List, [], ◌∷◌, ◌++◌, map, sym, refl, subst, ⊎_elim, arith}
 use mathlib.Core.List.Memᴰ
 use Rattle.std.proofs.lemmas.Bool.{eqb-true, eq-eqb}
-use Rattle.std.specs.List.{AllByRecursion as All}
+use Rattle.std.specs.List.{AllByRecursion}
 use Rattle.lists.specs.Lists.{Listed, Once, join_all, some}
 
 pub once_append : {A : Type 0} (xs ys : List A) → Once xs → Once ys → ((x : A) → Listed x xs → Listed x ys → ⊥) → Once (xs ++ ys)
@@ -55,11 +55,11 @@ listed_some x (y ∷ ys) h = ⊎_elim (λ same. rw (eq-eqb x y same)) (λ later.
     or_true true e = refl
     or_true false e = e
 
-pub all_listed : {A : Type 0} (P : A → Type 0) {x : A} (xs : List A) → All P xs → Listed x xs → P x
+pub all_listed : {A : Type 0} (P : A → Type 0) {x : A} (xs : List A) → AllByRecursion P xs → Listed x xs → P x
 all_listed P [] a h = absurd (Memᴰ.not-nil h)
 all_listed P (y ∷ ys) a h = ⊎_elim (λ same. subst P (sym same) a.0) (λ later. all_listed P ys a.1 later) (Memᴰ.cases_cons h)
 
 -- what holds of each listed element holds of all
-pub listed_all : {A : Type 0} (P : A → Type 0) (xs : List A) → ((x : A) → Listed x xs → P x) → All P xs
+pub listed_all : {A : Type 0} (P : A → Type 0) (xs : List A) → ((x : A) → Listed x xs → P x) → AllByRecursion P xs
 listed_all P [] f = tt
 listed_all P (x ∷ xs) f = (f x (Memᴰ.head refl), listed_all P xs (λ y h. f y (Memᴰ.tail h)))

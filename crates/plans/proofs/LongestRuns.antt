@@ -1,6 +1,6 @@
 -- The height of an item is the length of the longest run of containers above it. Assumes nothing.
 use Rattle.std.proofs.Common.{◌≡◌, ℕ, zero, suc, ◌<◌, ◌≤◌, true, ◌⊎◌, List, [], ◌∷◌, sym, refl, subst, inl, inr, ⊎_elim, arith}
-use Rattle.std.specs.List.{AllByRecursion as All}
+use Rattle.std.specs.List.{AllByRecursion}
 use Rattle.std.proofs.lemmas.Bool.{cases_lt}
 use Rattle.plans.specs.Items.{Items, Lawful, tallest, height_of}
 use Rattle.plans.specs.Runs.{contains, ItemChain, itself, inside, Run, Longest}
@@ -8,13 +8,13 @@ use Rattle.plans.specs.Heights.{height_step, all_same}
 use Rattle.plans.proofs.Joined.{some_listed, listed_some, all_listed, listed_all}
 
 -- the largest is above each
-above_each : (f : ℕ → ℕ) (xs : List ℕ) → All (λ x. suc (f x) ≤ tallest f xs) xs
+above_each : (f : ℕ → ℕ) (xs : List ℕ) → AllByRecursion (λ x. suc (f x) ≤ tallest f xs) xs
 above_each f [] = tt
 above_each f (x ∷ xs) =
     (omega arith, all_same (λ y. suc (f y) ≤ tallest f xs) (λ y. suc (f y) ≤ tallest f (x ∷ xs)) (λ y h. omega arith) xs (above_each f xs))
 
 -- and is reached, where there is any
-reached : (f : ℕ → ℕ) (P : ℕ → Type 0) (xs : List ℕ) → All P xs → (tallest f xs ≡ 0) ⊎ ((c : ℕ) × P c × (tallest f xs ≡ suc (f c)))
+reached : (f : ℕ → ℕ) (P : ℕ → Type 0) (xs : List ℕ) → AllByRecursion P xs → (tallest f xs ≡ 0) ⊎ ((c : ℕ) × P c × (tallest f xs ≡ suc (f c)))
 reached f P [] h = inl refl
 reached f P (x ∷ xs) h =
     ⊎_elim (λ z. inr (x, h.0, omega arith))
@@ -36,7 +36,7 @@ module _ (M : Items) (lawful : Lawful M) where
   there (suc n) item l =
       let R : ℕ → Type 0 = λ k. Run M item k in
       let In : ℕ → Type 0 = λ c. (contains M c item ≡ true) × Run M c (height_of M c) in
-      let each : All In (M.containers item) =
+      let each : AllByRecursion In (M.containers item) =
       listed_all In (M.containers item)
       (λ c has. (listed_some c (M.containers item) has, there n c (let b = all_listed (λ c. c < item) (M.containers item) (lawful.lower item) has in omega arith))) in
       subst R (sym (height_step M lawful.lower item))

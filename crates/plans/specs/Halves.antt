@@ -4,7 +4,7 @@ use Rattle.std.proofs.Common.{sym, subst, ◌∙◌, arith}
 use mathlib.Core.List.Memᴰ
 use Rattle.std.proofs.lemmas.Bool.Decides.{nat_tests}
 use Rattle.std.proofs.lemmas.Bool.{cond_both, and_parts, ltb-true}
-use Rattle.std.specs.List.{AllByRecursion as All}
+use Rattle.std.specs.List.{AllByRecursion}
 use Rattle.lists.specs.Lists.{Once}
 use Rattle.plans.specs.Items.{Lawful, tallest, rise, height_of}
 use Rattle.plans.specs.Channels.{halves, channels}
@@ -17,8 +17,8 @@ by_half P item none some =
     (λ e. let both = and_parts (nat_lt 1 item) (nat_lt item 256) e in some (ltb-true 1 item both.0) (ltb-true item 256 both.1))
     (λ e. none)
 
-lower : (item : ℕ) → All (λ c. c < item) (halves item)
-lower item = by_half (λ xs. All (λ c. c < item) xs) item tt (λ p q. (omega arith, tt))
+lower : (item : ℕ) → AllByRecursion (λ c. c < item) (halves item)
+lower item = by_half (λ xs. AllByRecursion (λ c. c < item) xs) item tt (λ p q. (omega arith, tt))
 
 -- an item below 2 ^ (k + 1) lies in at most k containers
 rise_low : (k most item : ℕ) → item < 2 ^ suc k → rise halves most item ≤ k
@@ -38,7 +38,7 @@ channels_lawful = record {
   flat = λ item e. no_containers_flat channels lower item (unknown item e);
   few = λ item. by_half (λ xs. length xs ≤ 2) item (omega arith) (λ p q. omega arith);
   different = λ item. by_half Once item tt (λ p q. (Memᴰ.not-nil, tt));
-  placed = λ item. by_half (λ xs. All (λ c. channels.known c ≡ true) xs) item tt (λ p q. (grind (arith, nat_tests), tt));
+  placed = λ item. by_half (λ xs. AllByRecursion (λ c. channels.known c ≡ true) xs) item tt (λ p q. (grind (arith, nat_tests), tt));
   lower = lower;
   low = λ item. let P : ℕ → Type 0 = λ h. h ≤ 7 in
       subst P (sym (height_step channels lower item))

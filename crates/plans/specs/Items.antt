@@ -1,6 +1,6 @@
 -- What a plan of items means, what every plan keeps, and the item chains that its containers form. Assumes nothing.
 use Rattle.std.specs.Prelude.{◌≡◌, ℕ, zero, suc, ◌<◌, ◌≤◌, max, Bool, true, false, cond, List, [], ◌∷◌, map, length, ◌==◌}
-use Rattle.std.specs.List.{AllByRecursion as All}
+use Rattle.std.specs.List.{AllByRecursion}
 use Rattle.lists.specs.Lists.{join_all, Once}
 
 -- the items that are known, and the containers that each item lies in, in order
@@ -33,8 +33,8 @@ pub record Lawful (M : Items) : Type 0 where
   pub few : (item : ℕ) → length (M.containers item) ≤ 2
   pub different : (item : ℕ) → Once (M.containers item)
   -- containers are known, and have lower numbers than the item
-  pub placed : (item : ℕ) → All (λ c. M.known c ≡ true) (M.containers item)
-  pub lower : (item : ℕ) → All (λ c. c < item) (M.containers item)
+  pub placed : (item : ℕ) → AllByRecursion (λ c. M.known c ≡ true) (M.containers item)
+  pub lower : (item : ℕ) → AllByRecursion (λ c. c < item) (M.containers item)
   -- no run of containers above an item is longer than 7
   pub low : (item : ℕ) → height_of M item ≤ 7
 

@@ -3,7 +3,7 @@ use Rattle.std.specs.Prelude.{◌≡◌, ℕ, zero, suc, ◌<◌, ◌≤◌, tru
 use Rattle.std.proofs.Common.{sym, ap, ◌∙◌, ⊎_elim, arith}
 use mathlib.Core.List.Memᴰ
 use Rattle.std.proofs.lemmas.Bool.{cond_both, and_parts, ltb-true, ltb-false, lt-ltb, eqb-true, eqb-false, leb-true, not-true, cond-true, cond-false, cases_lt}
-use Rattle.std.specs.List.{AllByRecursion as All}
+use Rattle.std.specs.List.{AllByRecursion}
 use Rattle.lists.specs.Lists.{Once}
 use Rattle.plans.specs.declared.place.Place.{Place}
 use Rattle.plans.specs.Items.{Lawful, tallest, height_of}
@@ -22,7 +22,7 @@ both_different None (Some y) e = (Memᴰ.not-nil, tt)
 both_different (Some x) None e = (Memᴰ.not-nil, tt)
 both_different (Some x) (Some y) e = (λ h. eqb-false x y e (Memᴰ.eq_of_singleton h), (Memᴰ.not-nil, tt))
 
-pub all_below_true : (item : ℕ) (cs : List ℕ) → all_below item cs ≡ true → All (λ c. c < item) cs
+pub all_below_true : (item : ℕ) (cs : List ℕ) → all_below item cs ≡ true → AllByRecursion (λ c. c < item) cs
 all_below_true item [] e = tt
 all_below_true item (c ∷ cs) e =
     let parts = and_parts (nat_lt c item) (all_below item cs) e in
@@ -45,8 +45,8 @@ module _ (places : List Place) (filled : ℕ) (good : Good places filled) where
   by_place P item none some =
       cond_both (nat_lt item filled) (containers_at places item) [] P (λ e. some (ltb-true item filled e)) (λ e. none)
 
-  lower : (item : ℕ) → All (λ c. c < item) ((equipment places filled).containers item)
-  lower item = by_place (λ xs. All (λ c. c < item) xs) item tt (λ h. all_below_true item (containers_at places item) (parts item h).0)
+  lower : (item : ℕ) → AllByRecursion (λ c. c < item) ((equipment places filled).containers item)
+  lower item = by_place (λ xs. AllByRecursion (λ c. c < item) xs) item tt (λ h. all_below_true item (containers_at places item) (parts item h).0)
 
   -- a filled place has its item's height
   heights_below : (n item : ℕ) → item < n → item < filled → height_at places item ≡ height_of (equipment places filled) item
@@ -76,7 +76,7 @@ module _ (places : List Place) (filled : ℕ) (good : Good places filled) where
     flat = λ item e. sym (height_none item (ltb-false item filled e));
     few = λ item. by_place (λ xs. length xs ≤ 2) item (omega arith) (λ h. both_few (place_at places item).first (place_at places item).second);
     different = λ item. by_place Once item tt (λ h. both_different (place_at places item).first (place_at places item).second (parts item h).1);
-    placed = λ item. by_place (λ xs. All (λ c. nat_lt c filled ≡ true) xs) item tt
+    placed = λ item. by_place (λ xs. AllByRecursion (λ c. nat_lt c filled ≡ true) xs) item tt
         (λ h. all_same (λ c. c < item) (λ c. nat_lt c filled ≡ true) (λ c b. lt-ltb c filled (omega arith)) (containers_at places item)
         (all_below_true item (containers_at places item) (parts item h).0));
     lower = lower;

@@ -1,6 +1,6 @@
 -- The counts of a listing, from what is read of the tables. Assumes nothing.
 use Rattle.std.proofs.Common.{◌≡◌, ℕ, ◌+◌, ◌*◌, ◌<◌, ◌≤◌, Bool, true, false, cond, not, ◌&&◌, ◌||◌, eqb, ltb, ◌⊎◌, List, [], ◌∷◌, get_or, sum_by, sym, refl, ap, ◌∙◌, ap₂, inl, inr, arith}
-use Rattle.std.specs.List.{AllByRecursion as All}
+use Rattle.std.specs.List.{AllByRecursion}
 use Rattle.std.proofs.ByRecursion.{All-weaker}
 use Rattle.std.proofs.lemmas.List.{get_or_past}
 use Rattle.std.proofs.lemmas.List.Sums.{sum_by-cons}
@@ -26,7 +26,7 @@ use Rattle.model.proofs.Bounds.{all_below, counted_far}
 use Rattle.model.proofs.Counting.{counted_default, counted_signed}
 use Rattle.quick.specs.Sums.{defaults_below}
 
-sum_by_same_on : {A : Type 0} (f g : A → ℕ) (xs : List A) → All (λ x. f x ≡ g x) xs → sum_by f xs ≡ sum_by g xs
+sum_by_same_on : {A : Type 0} (f g : A → ℕ) (xs : List A) → AllByRecursion (λ x. f x ≡ g x) xs → sum_by f xs ≡ sum_by g xs
 sum_by_same_on f g [] a = refl
 sum_by_same_on f g (x ∷ xs) a =
     let first = a.0 in
@@ -35,7 +35,7 @@ sum_by_same_on f g (x ∷ xs) a =
     let right = sum_by-cons g x xs in
     omega arith
 
-some_on : {A : Type 0} (f g : A → Bool) (xs : List A) → All (λ x. f x ≡ g x) xs → some f xs ≡ some g xs
+some_on : {A : Type 0} (f g : A → Bool) (xs : List A) → AllByRecursion (λ x. f x ≡ g x) xs → some f xs ≡ some g xs
 some_on f g [] a = refl
 some_on f g (x ∷ xs) a = ap₂ (λ y z. y || z) a.0 (some_on f g xs a.1)
 
@@ -52,7 +52,7 @@ module _ (L K : Lengths) (same : (b j : ℕ) → b < 256 → L b j ≡ K b j) wh
       some_on (λ k. ltb 0 (L b k)) (λ k. ltb 0 (K b k)) (below 8)
       (All-weaker (λ k. k < 8) (λ k. ltb 0 (L b k) ≡ ltb 0 (K b k)) (λ k u. ap (λ x. ltb 0 x) (same b k l)) (below 8) (all_below 8))
 
-  module _ (n : ℕ) (E : Members) (grants : List Grant) (known : All (λ g. g.item < 256) grants) (s r : ℕ) where
+  module _ (n : ℕ) (E : Members) (grants : List Grant) (known : AllByRecursion (λ g. g.item < 256) grants) (s r : ℕ) where
     pub of_grants_same : (sign : Sign) (d : ℕ) → of_grants n E grants L s r sign d ≡ of_grants n E grants K s r sign d
     unfolding of_grants of_grant
     of_grants_same sign d =
@@ -93,7 +93,7 @@ defaults_all n E gs L held s r d small is =
     swap false false x = refl
 
 -- rows that are read off the tables count the listing
-module _ (n : ℕ) (M : Model) (I : Items) (s o r : ℕ) (counts : List (List ℕ)) (is : CountsItems I o counts) (known : All (λ g. g.item < 256) M.grants) (rows : Rows) where
+module _ (n : ℕ) (M : Model) (I : Items) (s o r : ℕ) (counts : List (List ℕ)) (is : CountsItems I o counts) (known : AllByRecursion (λ g. g.item < 256) M.grants) (rows : Rows) where
   from_sums : ((d : ℕ) → d < 15 → get_or rows.plus.counts d 0 ≡ of_grants n M.members M.grants (entry counts) s r Plus d) →
       ((d : ℕ) → d < 15 → get_or rows.minus.counts d 0 ≡ of_grants n M.members M.grants (entry counts) s r Minus d) →
       ((d : ℕ) → d < 15 → get_or rows.default.counts d 0 ≡ of_accounts n M.members M.grants (entry counts) s r d) →

@@ -9,7 +9,7 @@ use Rattle.strategies.specs.declared.strategy.Strategy.{Strategy}
 use Rattle.plans.specs.Channels.{channels}
 use Rattle.plans.specs.Filling.{add_after, add_answer, no_items}
 use Rattle.plans.specs.Items.{Items}
-use Rattle.plans.specs.Refusals.{refusal_number as equipment-number}
+use Rattle.plans.specs.Refusals.{refusal_number as equipment_number}
 use Rattle.plans.specs.declared.refusal.EquipmentRefusal.{EquipmentRefusal}
 use Rattle.model.specs.Model.{Model, give_outcome, given, join_outcome, joined, just_made, leave_outcome, left, withdraw_outcome, withdrawn}
 use Rattle.model.specs.Question.{asked}
@@ -49,7 +49,7 @@ by_book (Err e) = Refused (refusal_number e)
 
 abbrev pub by_equipment : Result (Unit {0}) EquipmentRefusal → Outcome
 by_equipment (Ok u) = Done
-by_equipment (Err e) = Refused (equipment-number e)
+by_equipment (Err e) = Refused (equipment_number e)
 
 abbrev pub by_question : Result Answer Refusal → Outcome
 by_question (Ok a) = Answered a.sign a.plus_total a.minus_total

@@ -1,6 +1,6 @@
 -- Walked down from what the accounts start with, the arrivals are those that the grants and the default marks give. Assumes nothing.
 use Rattle.std.proofs.Common.{◌≡◌, ℕ, ◌+◌, ◌-◌, ◌*◌, ◌<◌, ◌≤◌, Bool, true, false, cond, ◌&&◌, eqb, ltb, leb, ◌⊎◌, List, [], ◌∷◌, sum_by, sym, refl, ap, ◌∙◌, ap₂, inl, inr, mul-zero, mul-add, arith}
-use Rattle.std.specs.List.{AllByRecursion as All}
+use Rattle.std.specs.List.{AllByRecursion}
 use Rattle.std.proofs.lemmas.List.Sums.{sum_by-cons}
 use Rattle.std.proofs.lemmas.Bool.{cases_lt, cond-true, cond-false, eq-eqb, ne_eqb, le-leb, lt-leb, lt-ltb, le-ltb}
 use Rattle.lists.specs.Lists.{sum_below}
@@ -73,7 +73,7 @@ module _ (n : ℕ) (E : Members) (L : Lengths) (s r : ℕ) (sign : Sign) (d : �
       step false =
           sum_zero n (all_of false) (λ a l. brings_none (count n E a s) (mine false a) (λ e. off (eqb g.account a) (L g.item e)) d)
 
-  by_account : (grants : List Grant) → All (λ g. g.account < n) grants →
+  by_account : (grants : List Grant) → AllByRecursion (λ g. g.account < n) grants →
       sum_below n (λ a. brings (count n E a s) (λ e. started grants L r a sign e) d) ≡ of_grants n E grants L s r sign d
   unfolding started of_grants
   by_account [] known = sum_zero n (λ a. brings (count n E a s) (λ e. 0) d) (λ a l. brings_none (count n E a s) (λ e. 0) (λ e. refl) d)
@@ -89,7 +89,7 @@ module _ (n : ℕ) (E : Members) (L : Lengths) (s r : ℕ) (sign : Sign) (d : �
       ∙ sym (sum_by-cons (of_grant n E L s r sign d) g gs)
 
   -- started from the accounts' own grants, what arrives is what all grants give
-  pub walked_signed : (grants : List Grant) → All (λ g. g.account < n) grants →
+  pub walked_signed : (grants : List Grant) → AllByRecursion (λ g. g.account < n) grants →
       arrived n E (λ a e. started grants L r a sign e) s 8 d ≡ of_grants n E grants L s r sign d
   walked_signed grants known = arrived_by_account n E (λ a e. started grants L r a sign e) s 8 d ∙ by_account grants known
 

@@ -1,6 +1,6 @@
 -- What the walk finds from the starts is what grants and accounts give. Assumes nothing.
 use Rattle.std.proofs.Common.{◌≡◌, ℕ, ◌+◌, ◌-◌, ◌*◌, ◌<◌, ◌≤◌, Bool, true, false, cond, not, ◌&&◌, eqb, leb, ◌⊎◌, List, length, sym, refl, ap, ◌∙◌, inl, inr, mul-pos, mul-zero, zero-mul, arith}
-use Rattle.std.specs.List.{AllByRecursion as All}
+use Rattle.std.specs.List.{AllByRecursion}
 use Rattle.std.proofs.lemmas.Bool.{cases_eq, cases_lt, cond-true, cond-false, le-leb, lt-leb}
 use Rattle.lists.specs.Lists.{sum_below}
 use Rattle.lists.proofs.Sums.{sum_zero, sum_has}
@@ -45,7 +45,7 @@ default_marked true x d h none = count_of one_at_0 d h ∙ small (eqb d 0)
     small false = refl
 default_marked false x d h none = none
 
-module _ (n : ℕ) (E : Members) (grants : List Grant) (above : ItemCounts) (s r : ℕ) (few : n ≤ 64) (known : All (λ g. g.account < n) grants) where
+module _ (n : ℕ) (E : Members) (grants : List Grant) (above : ItemCounts) (s r : ℕ) (few : n ≤ 64) (known : AllByRecursion (λ g. g.account < n) grants) where
   -- what the rows count
   pub rows_found : length grants ≤ 512 → (x y : Starts) → FromGrants grants (lengths_in above.counts) r x → Marked n E x y → (rows : Rows) →
       ((m : Mark) → ArrivalsCounted n E (λ a. row_at (start_at y a) m) s (row_at rows m)) → RowsBy n E grants (lengths_in above.counts) s r rows

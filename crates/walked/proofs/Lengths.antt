@@ -2,7 +2,7 @@
 use Rattle.std.proofs.Common.{◌≡◌, ℕ, ◌+◌, ◌*◌, ◌<◌, ◌≤◌, Bool, true, false, cond, not, ◌&&◌, ◌||◌, eqb, ltb, ◌⊎◌, List, [], ◌∷◌, length, get_or, replicate, sym, refl, ap, ◌∙◌, ap₂, inl, inr, arith}
 use mathlib.Core.Path.{fun_ext}
 use lib.ListN.{length-replicate, get_or-replicate}
-use Rattle.std.specs.List.{AllByRecursion as All}
+use Rattle.std.specs.List.{AllByRecursion}
 use Rattle.std.proofs.ByRecursion.{All-weaker, sum_by_le}
 use Rattle.std.proofs.lemmas.List.{get_or_past}
 use Rattle.std.proofs.lemmas.List.Sums.{sum_by-cons}
@@ -59,9 +59,9 @@ started_past L none grants r a sign d l = sum_by_zero (given_by L r a sign d) (�
 
 -- lengths that agree on the items of grants
 abbrev pub Agree : Lengths → Lengths → List Grant → Type 0
-Agree L K grants = All (λ g. (k : ℕ) → L g.item k ≡ K g.item k) grants
+Agree L K grants = AllByRecursion (λ g. (k : ℕ) → L g.item k ≡ K g.item k) grants
 
-pub read_listed : (I : Items) (o : ℕ) (x : ItemCounts) → CountsItems I o x.counts → (grants : List Grant) → All (λ g. g.item < 256) grants →
+pub read_listed : (I : Items) (o : ℕ) (x : ItemCounts) → CountsItems I o x.counts → (grants : List Grant) → AllByRecursion (λ g. g.item < 256) grants →
     Agree (lengths_in x.counts) (listed_lengths I o) grants
 read_listed I o x counts grants small =
     All-weaker (λ g. g.item < 256) (λ g. (k : ℕ) → lengths_in x.counts g.item k ≡ listed_lengths I o g.item k)

@@ -1,6 +1,6 @@
 -- From counts to the listing: the rows of a listing, and its least distance. Assumes nothing.
 use Rattle.std.proofs.Common.{◌≡◌, ℕ, ◌+◌, ◌<◌, ◌≤◌, min, Bool, true, false, cond, ◌&&◌, eqb, ◌⊎◌, List, [], ◌∷◌, map, length, Some, None, Option, sym, refl, ap, ◌∙◌, inl, inr, arith}
-use Rattle.std.specs.List.{AllByRecursion as All}
+use Rattle.std.specs.List.{AllByRecursion}
 use Rattle.std.proofs.lemmas.List.{get_or_past}
 use Rattle.std.proofs.lemmas.Bool.{cases_lt, cases_order, eq-eqb, ne_eqb, and_right}
 use Rattle.lists.specs.Lists.{keep}
@@ -22,7 +22,7 @@ use Rattle.walked.specs.Asked.{RowsBy, FirstIfAny}
 use Rattle.walked.proofs.Lengths.{Agree, of_grants_same, of_accounts_same}
 
 -- nothing is counted past distance 14
-far_none : (m : Mark) (rows : List Arrival) → All Near rows → (d : ℕ) → 15 ≤ d → counted m rows d ≡ 0
+far_none : (m : Mark) (rows : List Arrival) → AllByRecursion Near rows → (d : ℕ) → 15 ≤ d → counted m rows d ≡ 0
 unfolding counted
 far_none m [] near d l = refl
 far_none m (x ∷ rows) near d l =

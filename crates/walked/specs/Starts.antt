@@ -1,6 +1,6 @@
 -- What each account has before the walk: the arrivals that its own grants give. Assumes nothing.
 use Rattle.std.specs.Prelude.{ℕ, ◌<◌, cond, ◌&&◌, List, sum_by, ◌==◌, slice_index}
-use Rattle.std.specs.List.{AllByRecursion as All}
+use Rattle.std.specs.List.{AllByRecursion}
 use Rattle.plans.specs.Counts.{row_read}
 use Rattle.strategies.specs.Resolve.{same_sign}
 use Rattle.strategies.specs.declared.marks.Sign.{Sign}
@@ -22,4 +22,4 @@ started grants L r a sign d = sum_by (given_by L r a sign d) grants
 
 -- the grants are to accounts below 64
 abbrev pub InRange : List Grant → Type 0
-InRange grants = All (λ g. g.account < 64) grants
+InRange grants = AllByRecursion (λ g. g.account < 64) grants

@@ -2,7 +2,7 @@ use Rattle.std.proofs.Common.{◌+◌, Bool, ◌||◌, drop, sym, ap, ◌∙◌}
 use Rattle.std.proofs.lemmas.List.{at_drop_more, at_drop_all}
 use Rattle.std.proofs.lemmas.Bool.{lt-ltb, le-ltb}
 use Rattle.lists.specs.Lists.{some}
-use Rattle.ffi.specs.declared.records.GrantRecord.{GrantRecord}
+use Rattle.ffi.specs.declared.plain.GrantRecord.{GrantRecord}
 use Rattle.ffi.specs.Left.{bad_sign}
 use Rattle.ffi.proofs.memory.has_bad_sign.Goals as goal
 

@@ -1,7 +1,7 @@
 use Rattle.std.proofs.Common.{◌≡◌, ℕ, ◌+◌, List, [], ◌∷◌, ◌++◌, map, length, get_or, drop, sym, ◌∙◌, ap₂, arith}
 use Rattle.std.proofs.lemmas.List.{drop-set-lt, map_more, take_all, take-append-drop, take_more_set}
 use Rattle.model.specs.declared.grant.Grant.{Grant}
-use Rattle.ffi.specs.declared.records.GrantRecord.{GrantRecord}
+use Rattle.ffi.specs.declared.plain.GrantRecord.{GrantRecord}
 use Rattle.ffi.specs.Left.{grant_of}
 use Rattle.runs.proofs.Running.{behind_more}
 use Rattle.ffi.proofs.memory.read_grants.Goals as goal

@@ -2,7 +2,7 @@ use Rattle.std.proofs.Common.{◌≡◌, ℕ, ◌+◌, List, [], ◌∷◌, ◌+
 use Rattle.std.proofs.lemmas.List.{drop-set-lt, map_more, take_all, take-append-drop, take_more_set}
 use Rattle.strategies.specs.declared.marks.Sign.TheVariants.{Plus}
 use Rattle.model.specs.declared.grant.Grant.{Grant}
-use Rattle.ffi.specs.declared.records.GrantRecord.{GrantRecord}
+use Rattle.ffi.specs.declared.plain.GrantRecord.{GrantRecord}
 use Rattle.ffi.specs.Replies.{grant_record}
 use Rattle.runs.proofs.Running.{behind_more}
 use Rattle.ffi.proofs.memory.write_grants.Goals as goal

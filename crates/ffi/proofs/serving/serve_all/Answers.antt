@@ -1,8 +1,8 @@
 use Rattle.std.proofs.Common.{◌≡◌, ℕ, ◌+◌, ◌<◌, List, ◌++◌, length, get_or, take, drop, sym, refl, ap, ◌∙◌, ap₂, arith}
 use Rattle.std.proofs.lemmas.List.{drop-set-lt, take-append-drop, take_more_set}
 use Rattle.book.specs.Books.{accounts_of, capacity_in}
-use Rattle.ffi.specs.declared.records.CallRecord.{CallRecord}
-use Rattle.ffi.specs.declared.records.ReplyRecord.{ReplyRecord}
+use Rattle.ffi.specs.declared.plain.CallRecord.{CallRecord}
+use Rattle.ffi.specs.declared.plain.ReplyRecord.{ReplyRecord}
 use Rattle.ffi.specs.Requests.{request_of}
 use Rattle.ffi.specs.Runs.{after, all_replies, reply_to, run, standing}
 use Rattle.runs.proofs.Running.{behind_more}
