@@ -1,4 +1,5 @@
 //! Lines and lists as they are read: each letter, each fault at each column that it can have, and the ends of a text.
+#![tactic(auto)]
 
 #[cfg(test)]
 mod faulty;

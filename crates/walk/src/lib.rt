@@ -1,5 +1,6 @@
 //! The walk down the memberships, one text for every kind of weight that can be added and stepped, and the weights of the product:
 //! rows of counts, and a distance or none.
+#![tactic(auto)]
 
 pub mod least;
 pub mod least_weight;

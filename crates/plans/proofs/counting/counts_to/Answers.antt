@@ -1,5 +1,5 @@
-use Rattle.std.proofs.Common.{◌≡◌, ℕ, ◌+◌, ◌-◌, ◌<◌, sym, subst, arith}
-use Rattle.plans.specs.Counts.{entry, Full}
+use Rattle.std.proofs.Common.{◌≡◌, ◌+◌, ◌-◌, subst, arith}
+use Rattle.plans.specs.Counts.{entry}
 use Rattle.plans.specs.Above.{Passed}
 use Rattle.plans.proofs.Counted.{passed_end, outside_counts}
 use Rattle.plans.proofs.First.{first_full, first_passed}

@@ -1,4 +1,4 @@
-use Rattle.std.proofs.Common.{◌≡◌, ℕ, ◌+◌, ◌<◌, List, length, sym, subst, arith}
+use Rattle.std.proofs.Common.{ℕ, ◌+◌, ◌<◌, List, length, sym, subst, arith}
 use Rattle.plans.specs.Counts.{row_at, entry, Full}
 use Rattle.plans.specs.Above.{Passing}
 use Rattle.plans.proofs.Entries.{empty_row}

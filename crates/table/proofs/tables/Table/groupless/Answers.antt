@@ -1,4 +1,4 @@
-use Rattle.std.proofs.Common.{◌≡◌, not, sym, ap, ◌∙◌, arith, below_more}
+use Rattle.std.proofs.Common.{not, sym, ap, arith}
 use Rattle.chains.specs.Tests.{groupless}
 use Rattle.chains.proofs.Some.{some_no, some_yes}
 use Rattle.table.specs.Tables.{members_in}
