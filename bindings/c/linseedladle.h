@@ -1,7 +1,7 @@
 /*
  * Linseedladle for callers in C: an access book for shared ground stations, and the access list.
  *
- * The functions are in libffi.a (`rt staticlib ffi`); link it in front of librattle_c.a of the kit. What the comments here say of them is
+ * The functions are in libffi.a (`rt lib` in crates/ffi); link it in front of libos_c.a and liblibc_c.a of the kit. What the comments here say of them is
  * proved of the Rattle source. This header itself is written by hand and only tested.
  *
  * What the caller owes, in every call:

@@ -1,4 +1,4 @@
-//! Finds the static library and the kit's C part, and has both linked.
+//! Finds the static library and the kit's C parts, and has both linked.
 
 use std::env;
 use std::path::{Path, PathBuf};
@@ -25,8 +25,10 @@ fn link(folder: &Path, name: &str, how: &str) {
 fn main() {
     println!("cargo:rerun-if-changed=build.rs");
     let here = PathBuf::from(env::var_os("CARGO_MANIFEST_DIR").unwrap_or_default());
-    let ladle = set("LADLE_LIB").unwrap_or_else(|| here.join("../../target/staticlib"));
+    let ladle = set("LADLE_LIB").unwrap_or_else(|| here.join("../../crates/ffi/out"));
     let kit = set("RATTLE_HOME").unwrap_or_else(|| PathBuf::from("/opt/rattle"));
-    link(&ladle, "ffi", "run `rt staticlib ffi` in the repository, or set LADLE_LIB to the folder that has it");
-    link(&kit.join("lib"), "rattle_c", "set RATTLE_HOME to the folder of the kit");
+    link(&ladle, "ffi", "run `rt lib` in crates/ffi of the repository, or set LADLE_LIB to the folder that has it");
+    for name in ["os_c", "libc_c"] {
+        link(&kit.join("c"), name, "set RATTLE_HOME to the folder of the kit");
+    }
 }
