@@ -4,22 +4,22 @@ use Rattle.reader.specs.declared.faults.ListFault.{ListFault}
 use Rattle.lines.specs.declared.line.Line.{Line}
 use Rattle.output.specs.declared.outcome.Outcome.{Outcome}
 use Rattle.output.specs.declared.outcome.Outcome.TheVariants.{Faulty}
-use Rattle.reader.specs.Lists.{first_of, one_more, said_behind, tail}
+use Rattle.reader.specs.Lists.{first_said, one_more, said_behind, tail}
 use Rattle.output.specs.Output.{output_line}
 use Rattle.reader.specs.Sessions.{Session, lines_output, outcome_of, session_after}
 
 -- what the first of some lines tells of all of them
-pub ended : (rs : List (Result Line ListFault)) → Ok None ≡ first_of rs → rs ≡ []
+pub ended : (rs : List (Result Line ListFault)) → Ok None ≡ first_said rs → rs ≡ []
 ended [] e = refl
 ended (Ok line ∷ rs) e = let wrong : ◌≡◌ {A = ℕ} 0 1 = cc in absurd (omega arith)
 ended (Err f ∷ rs) e = let wrong : ◌≡◌ {A = ℕ} 0 1 = cc in absurd (omega arith)
 
-pub is_line : (rs : List (Result Line ListFault)) (line : Line) → Ok (Some line) ≡ first_of rs → rs ≡ Ok line ∷ tail rs
+pub is_line : (rs : List (Result Line ListFault)) (line : Line) → Ok (Some line) ≡ first_said rs → rs ≡ Ok line ∷ tail rs
 is_line [] line e = let wrong : ◌≡◌ {A = ℕ} 0 1 = cc in absurd (omega arith)
 is_line (Ok other ∷ rs) line e = let same : line ≡ other = cc in ap (λ (x : Line). Ok x ∷ rs) (sym same)
 is_line (Err f ∷ rs) line e = let wrong : ◌≡◌ {A = ℕ} 0 1 = cc in absurd (omega arith)
 
-pub is_fault : (rs : List (Result Line ListFault)) (f : ListFault) → Err f ≡ first_of rs → rs ≡ Err f ∷ tail rs
+pub is_fault : (rs : List (Result Line ListFault)) (f : ListFault) → Err f ≡ first_said rs → rs ≡ Err f ∷ tail rs
 is_fault [] f e = let wrong : ◌≡◌ {A = ℕ} 0 1 = cc in absurd (omega arith)
 is_fault (Ok line ∷ rs) f e = let wrong : ◌≡◌ {A = ℕ} 0 1 = cc in absurd (omega arith)
 is_fault (Err g ∷ rs) f e = let same : f ≡ g = cc in ap (λ (x : ListFault). Err x ∷ rs) (sym same)

@@ -43,10 +43,10 @@ abbrev pub unread : Reader → List (Result Line ListFault)
 unread r = said_behind r.line (lines_left r)
 
 -- the first line, if there is one
-abbrev pub first_of : List (Result Line ListFault) → Result (Option Line) ListFault
-first_of [] = Ok None
-first_of (Ok line ∷ rs) = Ok (Some line)
-first_of (Err f ∷ rs) = Err f
+abbrev pub first_said : List (Result Line ListFault) → Result (Option Line) ListFault
+first_said [] = Ok None
+first_said (Ok line ∷ rs) = Ok (Some line)
+first_said (Err f ∷ rs) = Err f
 
 -- what stands behind the first
 abbrev pub tail : {A : Type 0} → List A → List A

@@ -3,7 +3,7 @@
 ghost use Rattle.std.specs.Prelude.{◌≡◌, ℕ, ◌+◌, ◌<◌, ◌≤◌, [], ◌∷◌, length, MatchOption, ◌≢◌, slice_index};
 ghost use Rattle.lines.specs.Laws.{OneSpelling};
 ghost use Rattle.reader.specs.Laws.{LinesAgain};
-ghost use Rattle.reader.specs.Lists.{with_number, list_of, first_of, tail, lines_left, unread, one_more};
+ghost use Rattle.reader.specs.Lists.{with_number, list_of, first_said, tail, lines_left, unread, one_more};
 
 use crate::faults::ListFault;
 use crate::reader::Reader;
@@ -70,7 +70,7 @@ impl<'a> Reader<'a> {
 
     /// Reads the next line, or gives none behind the last. After a fault, too, the reader stands behind that line. The text stays as it is.
     pub fn next(&mut self) -> Result<Option<Line>, ListFault>
-        ensures answer { result ≡ first_of (unread self.old) }
+        ensures answer { result ≡ first_said (unread self.old) }
         ensures after { unread self.new ≡ tail (unread self.old) }
         ensures count { self.new.line ≡ one_more self.old.line (lines_left self.old) }
         ensures same { self.new.text ≡ self.old.text }
