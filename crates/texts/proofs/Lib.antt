@@ -1,0 +1,3 @@
+mod Cuts
+mod Feeds
+pub mod Counts
