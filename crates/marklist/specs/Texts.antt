@@ -1,21 +1,15 @@
 -- The marks that a text writes, one a line. Assumes nothing.
-use Rattle.std.specs.Prelude.{◌≡◌, ℕ, ◌+◌, cond, List, [], ◌∷◌, Ok, Err, Result, ◌==◌}
+use Rattle.std.specs.Prelude.{◌≡◌, ℕ, ◌+◌, List, [], ◌∷◌, Ok, Err, Result}
 use Rattle.marklist.specs.Lines.{arrival_in}
 use Rattle.strategies.specs.Rows.{CappedCountsOf}
 use Rattle.strategies.specs.declared.marks.Arrival.{Arrival}
 use Rattle.strategies.specs.declared.rows.Rows.{Rows}
 use Rattle.marklist.specs.declared.faults.MarkFault.{MarkFault}
-use Rattle.marklist.specs.declared.faults.ListFault.{ListFault}
+use Rattle.texts.specs.declared.at_line.AtLine.{AtLine}
 
--- a byte in front of the first line
-abbrev pub onto : ℕ → List (List ℕ) → List (List ℕ)
-onto c [] = (c ∷ []) ∷ []
-onto c (l ∷ ls) = (c ∷ l) ∷ ls
-
--- the text split at its line feeds, 10; the last line may lack one
-abbrev pub lines_of : List ℕ → List (List ℕ)
-lines_of [] = []
-lines_of (c ∷ cs) = cond (c == 10) ([] ∷ lines_of cs) (onto c (lines_of cs))
+-- the first line that writes no mark
+abbrev pub ListFault : Type 0
+ListFault = AtLine MarkFault
 
 -- what line n writes in front of what the later lines write
 abbrev pub with_mark : ℕ → Result Arrival MarkFault → Result (List Arrival) ListFault → Result (List Arrival) ListFault

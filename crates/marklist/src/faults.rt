@@ -1,9 +1,10 @@
 //! What is wrong with a text that should write marks.
 
 use std::fmt;
+use texts::AtLine;
 
 /// Why a line writes no mark.
-#[derive(Clone, Copy)]
+#[derive(Clone, Copy, PartialEq, Eq, Debug)]
 pub enum MarkFault {
     /// The line does not begin with `+`, `-` or `d`.
     NoMark,
@@ -14,11 +15,7 @@ pub enum MarkFault {
 }
 
 /// The first line that writes no mark, counted from 1.
-#[derive(Clone, Copy)]
-pub struct ListFault {
-    pub line: usize,
-    pub fault: MarkFault,
-}
+pub type ListFault = AtLine<MarkFault>;
 
 impl fmt::Display for MarkFault {
     fn fmt<W: fmt::Write>(&self, f: &mut fmt::Formatter<W>) -> fmt::Result {

@@ -7,6 +7,7 @@ use crate::faults::MarkFault;
 use strategies::marks::{Arrival, Mark, Sign};
 
 // The mark that a byte stands for.
+// A function and not `TryFrom`: the mark and the byte are types of other crates, which take no impl here.
 fn mark_with(letter: u8) -> Option<Mark>
     ensures { result ≡ letter_mark letter }
 {

@@ -1,7 +1,6 @@
 -- Rows that count a list of arrivals have its numbers of votes. Assumes nothing.
-use Rattle.std.proofs.Common.{◌≡◌, ℕ, ◌+◌, ◌<◌, ◌≤◌, ◌⊎◌, List, [], Some, None, Option, sym, ap, ◌∙◌, inl, inr, arith, MatchOption}
+use Rattle.std.proofs.Common.{◌≡◌, ℕ, ◌+◌, ◌<◌, ◌≤◌, List, [], Some, None, Option, sym, ap, ◌∙◌, arith, MatchOption}
 use Rattle.std.proofs.lemmas.List.{get_or_past}
-use Rattle.std.proofs.lemmas.Bool.{cases_lt}
 use Rattle.lists.specs.Lists.{sum_below}
 use Rattle.strategies.specs.Resolve.{votes, chosen, tally}
 use Rattle.strategies.specs.Rows.{row_at, CountsOf, share, votes_at, any_at}
@@ -18,9 +17,7 @@ use Rattle.strategies.proofs.Tallies.{tally_at, tally_sum, tally_votes, share_ze
 
 -- rows have nothing past distance 14
 row_past : (rows : Rows) (m : Mark) (d : ℕ) → 15 ≤ d → row_at rows m d ≡ 0
-row_past rows (Signed Plus) d h = get_or_past rows.plus.counts d 0 (omega (arith, rows.plus.long))
-row_past rows (Signed Minus) d h = get_or_past rows.minus.counts d 0 (omega (arith, rows.minus.long))
-row_past rows Default d h = get_or_past rows.default.counts d 0 (omega (arith, rows.default.long))
+row_past rows m d h = let p = rows.plus.long in let n = rows.minus.long in let o = rows.default.long in grind (arith, get_or_past)
 
 pub votes_past : (rule : DefaultRule) (s : Sign) (rows : Rows) (d : ℕ) → 15 ≤ d → votes_at rule s rows d ≡ 0
 votes_past rule s rows d h =
@@ -48,11 +45,7 @@ module _ (rows : Rows) (rule : DefaultRule) (l : List Arrival) (of : CountsOf ro
 
   -- none at all
   pub none_left : ((k : ℕ) → k < 15 → any_at rule rows k ≡ 0) → votes rule l ≡ []
-  none_left none = no_votes (votes rule l) (λ d. same_any d ∙ by d (cases_lt d 15))
-    where
-      by : (d : ℕ) → (d < 15) ⊎ (15 ≤ d) → any_at rule rows d ≡ 0
-      by d (inl h) = none d h
-      by d (inr h) = let plus = votes_past rule Plus rows d h in let minus = votes_past rule Minus rows d h in omega arith
+  none_left none = no_votes (votes rule l) (λ d. let plus = votes_past rule Plus rows d in let minus = votes_past rule Minus rows d in let here = none d in let same = same_any d in grind arith)
 
   pub same_nearest : (m : ℕ) → 0 < any_at rule rows m → ((k : ℕ) → k < m → any_at rule rows k ≡ 0) → (s : Sign) → votes_at rule s rows m ≡ tally s (chosen Nearest (votes rule l))
   same_nearest m some none s =
@@ -60,11 +53,8 @@ module _ (rows : Rows) (rule : DefaultRule) (l : List Arrival) (of : CountsOf ro
 
   pub same_farthest : (m : ℕ) → 0 < any_at rule rows m → ((k : ℕ) → m < k → k < 15 → any_at rule rows k ≡ 0) → (s : Sign) → votes_at rule s rows m ≡ tally s (chosen Farthest (votes rule l))
   same_farthest m some none s =
-      sym (tally_farthest (votes rule l) m (let same = same_any m in omega arith) (λ k h. same_any k ∙ by k h (cases_lt k 15)) s ∙ same_votes s m)
-    where
-      by : (k : ℕ) → m < k → (k < 15) ⊎ (15 ≤ k) → any_at rule rows k ≡ 0
-      by k h (inl low) = none k h low
-      by k h (inr high) = let plus = votes_past rule Plus rows k high in let minus = votes_past rule Minus rows k high in omega arith
+      sym (tally_farthest (votes rule l) m (let same = same_any m in omega arith)
+      (λ k h. let plus = votes_past rule Plus rows k in let minus = votes_past rule Minus rows k in let here = none k h in let same = same_any k in grind arith) s ∙ same_votes s m)
 
   -- the number that is read at the nearest distance, if there is one
   pub near : (o : Option ℕ) (n : ℕ) (s : Sign) → MatchOption o ((k : ℕ) → k < 15 → any_at rule rows k ≡ 0) (λ d. (0 < any_at rule rows d) × ((k : ℕ) → k < d → any_at rule rows k ≡ 0))

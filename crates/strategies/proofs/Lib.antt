@@ -1,7 +1,6 @@
 mod Hits
 mod Tallies
 mod Counts
-mod Deciding
 mod Table
 mod NameNumbers
 mod SameStrategy

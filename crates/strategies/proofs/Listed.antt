@@ -42,9 +42,7 @@ row_other m k d e (n ∷ ns) o =
     omega arith
 
 same_self : (m : Mark) → same_mark m m ≡ true
-same_self (Signed Plus) = refl
-same_self (Signed Minus) = refl
-same_self Default = refl
+same_self m = grind arith
 
 -- nothing before the first distance
 row_before : (m : Mark) (d e : ℕ) (ns : List ℕ) → d < e → length (keep (is m d) (row_from m e ns)) ≡ 0
@@ -90,24 +88,12 @@ from_zero m d ns = ap (λ x. length (keep (is m x) (row_from m 0 ns))) (omega ar
 
 listed_counts : (rows : Rows) → CountsOf rows (listed rows)
 unfolding counted
-listed_counts rows (Signed Plus) d =
-    let split = split_counted rows (Signed Plus) d in
-    let own = from_zero (Signed Plus) d rows.plus.counts in
-    let a = row_other (Signed Plus) (Signed Minus) d 0 rows.minus.counts refl in
-    let b = row_other (Signed Plus) Default d 0 rows.default.counts refl in
-    omega arith
-listed_counts rows (Signed Minus) d =
-    let split = split_counted rows (Signed Minus) d in
-    let own = from_zero (Signed Minus) d rows.minus.counts in
-    let a = row_other (Signed Minus) (Signed Plus) d 0 rows.plus.counts refl in
-    let b = row_other (Signed Minus) Default d 0 rows.default.counts refl in
-    omega arith
-listed_counts rows Default d =
-    let split = split_counted rows Default d in
-    let own = from_zero Default d rows.default.counts in
-    let a = row_other Default (Signed Plus) d 0 rows.plus.counts refl in
-    let b = row_other Default (Signed Minus) d 0 rows.minus.counts refl in
-    omega arith
+listed_counts rows m d =
+    let split = split_counted rows m d in
+    let plus = from_zero (Signed Plus) d rows.plus.counts in
+    let minus = from_zero (Signed Minus) d rows.minus.counts in
+    let default = from_zero Default d rows.default.counts in
+    grind (arith, row_other)
 
 pub any_rows_count : (rows : Rows) → (l : List Arrival) × CountsOf rows l
 any_rows_count rows = (listed rows, listed_counts rows)

@@ -1,5 +1,5 @@
 -- How many votes there are at each distance, and where the least and the greatest distance are. Assumes nothing.
-use Rattle.std.proofs.Common.{◌≡◌, ℕ, ◌+◌, ◌<◌, ◌≤◌, Bool, true, false, cond, ◌&&◌, eqb, ◌⊎◌, List, [], ◌∷◌, length, sym, refl, ap, ◌∙◌, inl, inr, arith}
+use Rattle.std.proofs.Common.{◌≡◌, ℕ, ◌+◌, ◌<◌, ◌≤◌, Bool, true, false, ◌&&◌, eqb, ◌⊎◌, List, [], ◌∷◌, length, sym, refl, ap, ◌∙◌, inl, inr, arith}
 use Rattle.std.proofs.lemmas.Bool.{cases_lt, eq-eqb}
 use Rattle.lists.specs.Lists.{keep, sum_below}
 use Rattle.strategies.specs.Resolve.{Vote, same_sign, vote_of, votes, distances, least_of, greatest_of, chosen, tally}
@@ -10,7 +10,6 @@ use Rattle.strategies.specs.declared.marks.Mark.{Mark}
 use Rattle.strategies.specs.declared.marks.Mark.TheVariants.{Signed, Default}
 use Rattle.strategies.specs.declared.marks.Arrival.{Arrival}
 use Rattle.strategies.specs.declared.strategy.DefaultRule.{DefaultRule}
-use Rattle.strategies.specs.declared.strategy.DefaultRule.TheVariants.{Dropped, Counts}
 use Rattle.strategies.specs.declared.strategy.Locality.TheVariants.{Nearest, Farthest}
 use Rattle.lists.proofs.Sums.{sum_add, sum_zero, sum_same}
 use Rattle.lists.proofs.Kept.{one, sum_at, kept_cons, kept_append, kept_none, kept_twice}
@@ -49,20 +48,10 @@ unfolding tally
 tally_kept s d vs = kept_twice (λ v. same_sign s v.sign) (λ v. eqb v.distance d) vs
 
 pub share_zero : (rule : DefaultRule) (s : Sign) → share rule s 0 ≡ 0
-share_zero Dropped s = refl
-share_zero (Counts t) s = by (same_sign s t)
-  where
-    by : (b : Bool) → ◌≡◌ {A = ℕ} (cond b 0 0) 0
-    by true = refl
-    by false = refl
+share_zero rule s = grind arith
 
 share_add : (rule : DefaultRule) (s : Sign) (x y : ℕ) → share rule s (x + y) ≡ share rule s x + share rule s y
-share_add Dropped s x y = refl
-share_add (Counts t) s x y = by (same_sign s t)
-  where
-    by : (b : Bool) → cond b (x + y) 0 ≡ cond b x 0 + cond b y 0
-    by true = refl
-    by false = refl
+share_add rule s x y = grind arith
 
 module _ (s : Sign) (d : ℕ) where
   abbrev is : Vote → Bool
@@ -70,17 +59,7 @@ module _ (s : Sign) (d : ℕ) where
 
   -- what one mark leaves
   own : (rule : DefaultRule) (m : Mark) (e : ℕ) → length (keep is (vote_of rule m e)) ≡ one (same_mark (Signed s) m && eqb e d) + share rule s (one (same_mark Default m && eqb e d))
-  own rule (Signed t) e =
-      let none = share_zero rule s in
-      let here = kept_cons is (record { sign = t; distance = e }) [] in
-      omega arith
-  own Dropped Default e = refl
-  own (Counts t) Default e = by (same_sign s t) (kept_cons is (record { sign = t; distance = e }) [])
-    where
-      by : (b : Bool) → length (keep is (record { sign = t; distance = e } ∷ [])) ≡ one (b && eqb e d) + 0
-          → length (keep is (record { sign = t; distance = e } ∷ [])) ≡ 0 + cond b (one (eqb e d)) 0
-      by true q = omega arith
-      by false q = omega arith
+  own rule m e = grind (arith, share_zero, kept_cons)
 
 -- settled marks are the signed ones and the share of the default marks
 pub tally_votes : (rule : DefaultRule) (s : Sign) (d : ℕ) (l : List Arrival) → tally_at s d (votes rule l) ≡ counted (Signed s) l d + share rule s (counted Default l d)
@@ -102,13 +81,8 @@ hits_both d (v ∷ vs) =
     let front = kept_cons (λ x. eqb x d) v.distance (distances vs) in
     let plus = kept_cons (is Plus d) v vs in
     let minus = kept_cons (is Minus d) v vs in
-    let here = by v.sign (eqb v.distance d) in
     let rest = hits_both d vs in
-    omega arith
-  where
-    by : (s : Sign) (b : Bool) → one b ≡ one (same_sign Plus s && b) + one (same_sign Minus s && b)
-    by Plus b = omega arith
-    by Minus b = omega arith
+    grind arith
 
 -- without a vote at any distance there is none
 pub no_votes : (vs : List Vote) → ((d : ℕ) → tally_at Plus d vs + tally_at Minus d vs ≡ 0) → vs ≡ []
@@ -122,18 +96,22 @@ no_votes (v ∷ vs) h =
 
 -- the least and the greatest distance, from the numbers of votes
 least_is : (v : Vote) (vs : List Vote) (m : ℕ) → 0 < tally_at Plus m (v ∷ vs) + tally_at Minus m (v ∷ vs) → ((k : ℕ) → k < m → tally_at Plus k (v ∷ vs) + tally_at Minus k (v ∷ vs) ≡ 0) → least_of v.distance (distances vs) ≡ m
-least_is v vs m some none = by (least_of v.distance (distances vs)) (least_hit v.distance (distances vs)) (least_le v.distance m (distances vs) (let both = hits_both m (v ∷ vs) in omega arith)) (cases_lt _ m)
-  where
-    by : (least : ℕ) → 0 < hits least (distances (v ∷ vs)) → least ≤ m → (least < m) ⊎ (m ≤ least) → least ≡ m
-    by least hit at_most (inl l) = let both = hits_both least (v ∷ vs) in let no_one = none least l in absurd (omega arith)
-    by least hit at_most (inr l) = omega arith
+least_is v vs m some none =
+    let least = least_of v.distance (distances vs) in
+    let hit = least_hit v.distance (distances vs) in
+    let both = hits_both m (v ∷ vs) in
+    let at_most = least_le v.distance m (distances vs) (omega arith) in
+    let there = hits_both least (v ∷ vs) in
+    grind (arith, none least)
 
 greatest_is : (v : Vote) (vs : List Vote) (m : ℕ) → 0 < tally_at Plus m (v ∷ vs) + tally_at Minus m (v ∷ vs) → ((k : ℕ) → m < k → tally_at Plus k (v ∷ vs) + tally_at Minus k (v ∷ vs) ≡ 0) → greatest_of v.distance (distances vs) ≡ m
-greatest_is v vs m some none = by (greatest_of v.distance (distances vs)) (greatest_hit v.distance (distances vs)) (greatest_le v.distance m (distances vs) (let both = hits_both m (v ∷ vs) in omega arith)) (cases_lt m _)
-  where
-    by : (greatest : ℕ) → 0 < hits greatest (distances (v ∷ vs)) → m ≤ greatest → (m < greatest) ⊎ (greatest ≤ m) → greatest ≡ m
-    by greatest hit at_least_lem (inl l) = let both = hits_both greatest (v ∷ vs) in let no_one = none greatest l in absurd (omega arith)
-    by greatest hit at_least_lem (inr l) = omega arith
+greatest_is v vs m some none =
+    let greatest = greatest_of v.distance (distances vs) in
+    let hit = greatest_hit v.distance (distances vs) in
+    let both = hits_both m (v ∷ vs) in
+    let at_most = greatest_le v.distance m (distances vs) (omega arith) in
+    let there = hits_both greatest (v ∷ vs) in
+    grind (arith, none greatest)
 
 -- the chosen votes are those at the least distance that has any
 pub tally_nearest : (vs : List Vote) (m : ℕ) → 0 < tally_at Plus m vs + tally_at Minus m vs → ((k : ℕ) → k < m → tally_at Plus k vs + tally_at Minus k vs ≡ 0) → (s : Sign) → tally s (chosen Nearest vs) ≡ tally_at s m vs

@@ -39,17 +39,6 @@ fn middle_number(locality: Locality, majority: Majority) -> u32
     }
 }
 
-// The number of the preferred sign.
-fn sign_number(sign: Sign) -> u32
-    ensures value { result ≡ sign_number sign }
-    ensures below { result < 2 }
-{
-    match sign {
-        Sign::Plus => 0,
-        Sign::Minus => 1,
-    }
-}
-
 // The preferred sign with the number.
 fn sign_with(number: u32) -> Sign
     requires { number < 2 }
@@ -102,17 +91,14 @@ pub(crate) fn strategy_with(number: u32) -> Strategy
     }
 }
 
+// Two named methods and not TryFrom and From: of any other number None says all, and an error type would say nothing more.
 impl Strategy {
     /// The strategy with the number, if there is one.
     pub fn numbered(number: u32) -> Option<Strategy>
         ensures found { MatchOption result (48 ≤ number) (λ s. number_of s ≡ number) }
         ensures back { (s : Strategy) → number_of s ≡ number → result ≡ Some s }
     {
-        if number < STRATEGIES {
-            Some(strategy_with(number))
-        } else {
-            None
-        }
+        (number < STRATEGIES).then(|| strategy_with(number))
     }
 
     /// The number: 16 for each default rule, 2 for each middle part, 1 for each preferred sign before it.
@@ -122,6 +108,6 @@ impl Strategy {
     {
         16 * default_number(self.default)
             + 2 * middle_number(self.locality, self.majority)
-            + sign_number(self.preferred)
+            + self.preferred as u32
     }
 }

@@ -1,23 +1,30 @@
-use Rattle.std.proofs.Common.{[], arith, lit≤}
+use Rattle.std.proofs.Common.{◌≡◌, ◌<◌, [], length, Ok, ap, ◌∙◌, inl, arith, rules, lit≤}
 use Rattle.strategies.proofs.OneMore.{counts_capped}
-use Rattle.marklist.proofs.TextLines.{begins, goes_on, stops, ends}
+use Rattle.texts.specs.Lines.{lines_of}
+use Rattle.texts.proofs.Counts.{lines_at_most}
+use Rattle.marklist.specs.Lines.{arrival_in}
+use Rattle.marklist.proofs.TextLines.{begins, goes_on}
 use Rattle.marklist.proofs.counting.count_marks.Goals as goal
 
-pub loop-left-init : goal.loop-left-init
-loop-left-init c = (begins c.args.text.now c.none-rows.result (counts_capped c.none-rows.result [] (lit≤ tt) c.none-rows.ensures), omega arith)
+pub loop-before-init : goal.loop-before-init
+loop-before-init c =
+    let lines = c.into_iter-before-iterator.result in
+    let same = c.into_iter-before-iterator.ensures.into_iter_gives in
+    let whole : lines.iter.rest.now ≡ c.args.text.now = ap (λ e. e.iter.rest.now) same ∙ ap (λ i. i.rest.now) c.enumerate-before-items.ensures.source ∙ c.of.ensures.whole in
+    let none : lines.count ≡ 0 = ap (λ e. e.count) same ∙ c.enumerate-before-items.ensures.count in (
+      (tt, tt, inl (omega (arith, none, lines_at_most lines.iter.rest.now, ap length whole))),
+      tt,
+      begins c.args.text.now (lines_of lines.iter.rest.now) lines.count c.none-rows.result (ap lines_of whole) none
+          (counts_capped c.none-rows.result [] (lit≤ tt) c.none-rows.ensures),
+    )
 
-pub loop-left-preserved : goal.loop-left-preserved
-loop-left-preserved c = (
-  goes_on c.args.text.now c.loop-left.left.now c.cut.result.0.now c.cut.result.1.now c.loop-left.line c.loop-left.rows c.add.new.self c.in-Ok.arrival
-      c.loop-left.invariant.0 c.cut.ensures.lines c.in-Ok.ensures.value
-      (λ l of. c.add.ensures.counts l of c.in-Ok.ensures.within),
-  omega (arith, c.loop-left.invariant.1, c.cut.ensures.shorter),
-)
-
-pub returns-in-Err : goal.returns-in-Err
-returns-in-Err c =
-    stops c.args.text.now c.loop-left.left.now c.cut.result.0.now c.cut.result.1.now c.loop-left.line c.loop-left.rows c.in-Err.fault
-    c.loop-left.invariant.0 c.cut.ensures.lines c.in-Err.ensures.value
-
-pub returns : goal.returns
-returns c = ends c.args.text.now c.loop-left.left.now c.loop-left.line c.loop-left.rows c.loop-left.invariant.0 (omega arith)
+pub loop-before-preserved : goal.loop-before-preserved
+loop-before-preserved c =
+    let step = c.in-Some.ensures.steps in
+    let value : Ok c.in_ok-arrival.arrival ≡ arrival_in c.in-Some.line.now = search rules in
+    let within : c.in_ok-arrival.arrival.distance < 15 = search rules in (
+      c.in-Some.ensures.goes.keeps,
+      tt,
+      goes_on c.args.text.now c.in-Some.line.now _ _ _ _ c.loop-before.rows c.add.new.self c.in_ok-arrival.arrival c.loop-before.invariant.2 step.0 step.2 value
+          (λ l of. c.add.ensures.counts l of within),
+    )
