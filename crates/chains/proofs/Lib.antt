@@ -18,3 +18,4 @@ pub mod Places
 pub mod Laid
 pub mod Shows
 pub mod Groups
+pub mod Ranges

@@ -4,7 +4,7 @@ use Rattle.std.proofs.lemmas.List.{get_or-take, get_or-drop}
 use Rattle.lists.proofs.Sums.{sum_same, sum_zero}
 use Rattle.chains.specs.Table.{entry}
 use Rattle.chains.proofs.Places.{line_kept}
-use Rattle.counts.specs.Rows.{Low, LowTable, at_of, row, through}
+use Rattle.counts.specs.Rows.{Low, LowTable, at_of, count_after, row, through}
 
 pub get_or_row : (t : List ℕ) (n a s k : ℕ) → k < 8 → get_or (row t n a s) k 0 ≡ entry t n a s k
 get_or_row t n a s k h = rw (get_or-take, get_or-drop)
@@ -56,8 +56,10 @@ module _ (t down : List ℕ) (n b s : ℕ) (e : down ≡ row t n b s) where
   pub row_low : LowTable n t → b < n → s < n → Low down
   row_low low hb hs k h = omega (arith, row_is k h, low b s k hb hs h)
 
-  pub through_row : (up : ℕ → ℕ) (k : ℕ) → k < 8 → through up (at_of down) k ≡ through up (entry t n b s) k
-  through_row up k h = through_same up (at_of down) up (entry t n b s) k (λ i lt. refl) (λ i lt. row_is i (omega arith))
-
-  pub through_up_row : (below : ℕ → ℕ) (k : ℕ) → k < 8 → through (at_of down) below k ≡ through (entry t n b s) below k
-  through_up_row below k h = through_same (at_of down) below (entry t n b s) below k (λ i lt. row_is i (omega arith)) (λ i lt. refl)
+-- a count after a membership is made, from three rows as they are read
+module _ (t xs up down : List ℕ) (n a s p c : ℕ) (is : xs ≡ row t n a s) (is_up : up ≡ row t n a p) (is_down : down ≡ row t n c s) where
+  pub after_is : (k : ℕ) → k < 8 → get_or xs k 0 + through (at_of up) (at_of down) k ≡ count_after t n p c a s k
+  after_is k h =
+      ap₂ (λ (x y : ℕ). x + y) (row_is t xs n a s is k h)
+      (through_same (at_of up) (at_of down) (entry t n a p) (entry t n c s) k
+      (λ i l. row_is t up n a p is_up i (omega arith)) (λ i l. row_is t down n c s is_down i (omega arith)))

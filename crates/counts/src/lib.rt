@@ -1,5 +1,5 @@
-//! The chain counts of all pairs of accounts in a list of numbers: reading, making and changing them. An inner layer, whose functions require that the
-//! counts fit into the list.
+//! The chain counts of all pairs of accounts in a list of numbers: reading, making and changing them. An inner layer, whose functions require
+//! known accounts and, where they change counts, that the counts fit into the list.
 #![tactic(auto)]
 
 pub mod changing;

@@ -2,9 +2,11 @@
 #![tactic(auto)]
 
 ghost use Rattle.std.specs.Prelude.{◌≡◌, ℕ, ◌<◌, ◌≤◌, true, length, slice_index};
-ghost use Rattle.table.specs.Tables.{SoundTable};
 
-use std::io;
+use chains::LENGTHS;
+use joins::{join_in, leave_in};
+use model::refusal::Refusal;
+use std::{fmt, io};
 use table::Table;
 
 /// What lies in the memory before a table is made over it.
@@ -28,51 +30,26 @@ const ROW: [(usize, usize); 8] = [
     (7, 8),
 ];
 
-/// Makes `member` a member of `group`, or says what speaks against it.
-fn join(table: &mut Table, group: usize, member: usize) -> &'static str
-    requires { SoundTable table.old }
-    ensures { SoundTable table.new }
-{
-    let n = table.accounts();
-    if group >= n || member >= n {
-        return "an unknown account";
-    }
-    if table.leads(member, group) {
-        return "a circle";
-    }
-    if table.stands(group, member) {
-        return "it stands";
-    }
-    if table.too_long(group, member) {
-        return "a chain would be too long";
-    }
-    if table.too_many(group, member) {
-        return "a count would be too large";
-    }
-    table.add(group, member);
-    "joined"
-}
+/// What speaks against a change of a membership.
+#[derive(Clone, Copy)]
+struct Against(Refusal);
 
-/// Ends the membership of `member` in `group`, if it stands.
-fn leave(table: &mut Table, group: usize, member: usize) -> &'static str
-    requires { SoundTable table.old }
-    ensures { SoundTable table.new }
-{
-    let n = table.accounts();
-    if group >= n || member >= n {
-        return "an unknown account";
+impl fmt::Display for Against {
+    fn fmt<W: fmt::Write>(&self, f: &mut fmt::Formatter<W>) -> fmt::Result {
+        match self.0 {
+            Refusal::UnknownAccount => write!(f, "an unknown account"),
+            Refusal::Circle => write!(f, "a circle"),
+            Refusal::MemberStands => write!(f, "it stands"),
+            Refusal::ChainTooLong => write!(f, "a chain would be too long"),
+            Refusal::CountTooLarge => write!(f, "a count would be too large"),
+            Refusal::NotAMember => write!(f, "it does not stand"),
+            other => write!(f, "refused: {other:?}"),
+        }
     }
-    if !table.stands(group, member) {
-        return "it does not stand";
-    }
-    table.strike(group, member);
-    "left"
 }
 
 /// Prints how many chains lead from `a` down to `s`, for each length from 0 to 7.
-fn print_row(rt: &HostRuntime, table: &Table, a: usize, s: usize) -> io::Result<()>
-    requires { SoundTable table.now }
-{
+fn print_row(rt: &HostRuntime, table: &Table, a: usize, s: usize) -> io::Result<()> {
     let n = table.accounts();
     if a >= n || s >= n {
         return Ok(());
@@ -85,15 +62,14 @@ fn print_row(rt: &HostRuntime, table: &Table, a: usize, s: usize) -> io::Result<
     println!(rt)
 }
 
-/// Joins the pairs one after the other, and prints what each join says.
-fn join_all(rt: &HostRuntime, table: &mut Table, pairs: &[(usize, usize)]) -> io::Result<()>
-    requires { SoundTable table.old }
-    ensures { SoundTable table.new }
-{
-    for i in 0..pairs.len() {
-        let (group, member) = pairs[i];
-        let said = join(table, group, member);
-        println!(rt; "join {group} {member}: {said}")?;
+/// Joins the pairs one after the other, and prints what comes of each join.
+fn join_all(rt: &HostRuntime, table: &mut Table, pairs: &[(usize, usize)]) -> io::Result<()> {
+    for (group, member) in pairs {
+        print!(rt; "join {group} {member}: ")?;
+        match join_in(table, *group, *member) {
+            Ok(()) => println!(rt; "joined")?,
+            Err(refusal) => println!(rt; "{}", Against(refusal))?,
+        }
     }
     Ok(())
 }
@@ -104,8 +80,11 @@ fn show_diamond(rt: &HostRuntime, memory: &mut [u32]) -> io::Result<()> {
     println!(rt; "the diamond, with room for {n} accounts")?;
     join_all(rt, &mut table, &DIAMOND)?;
     print_row(rt, &table, 0, 3)?;
-    let said = leave(&mut table, 0, 1);
-    println!(rt; "leave 0 1: {said}")?;
+    print!(rt; "leave 0 1: ")?;
+    match leave_in(&mut table, 0, 1) {
+        Ok(()) => println!(rt; "left")?,
+        Err(refusal) => println!(rt; "{}", Against(refusal))?,
+    }
     print_row(rt, &table, 0, 3)
 }
 
@@ -120,19 +99,14 @@ fn show_row(rt: &HostRuntime, memory: &mut [u32]) -> io::Result<()> {
 fn untouched(memory: &[u32], from: usize) -> bool
     ensures { result ≡ true → (k : ℕ) → from ≤ k → k < length memory.now → slice_index memory.now k ≡ 7777 }
 {
-    for i in from..memory.len() {
-        if memory[i] != RUBBISH {
-            return false;
-        }
-    }
-    true
+    memory.iter().skip(from).all(|count| *count == RUBBISH)
 }
 
 fn main(rt: HostRuntime) -> anyhow::Result<()> {
     let mut memory = [RUBBISH; LENT];
     show_diamond(&rt, &mut memory)?;
     show_row(&rt, &mut memory)?;
-    let same = untouched(&memory, 9 * 9 * 8);
+    let same = untouched(&memory, 9 * 9 * LENGTHS);
     println!(rt; "behind the table all is as it was: {same}")?;
     Ok(())
 }

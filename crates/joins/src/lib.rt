@@ -1,10 +1,10 @@
-//! Joins and leavings on the table, with their refusals: an inner layer, whose calls require a sound table.
+//! Joins and leavings on the table, with their refusals.
 #![tactic(auto)]
 
 ghost use Rattle.chains.specs.Chains.{add, strike};
 ghost use Rattle.model.specs.Model.{join_checks, leave_checks};
 ghost use Rattle.model.specs.Refusals.{UnlessAccepted, checks, where_accepted};
-ghost use Rattle.table.specs.Tables.{SoundTable, behind, members_in};
+ghost use Rattle.table.specs.Tables.{behind, members_in};
 ghost use Rattle.std.specs.Prelude.{◌≡◌};
 
 use model::refusal::Refusal;
@@ -12,8 +12,6 @@ use table::Table;
 
 /// Makes `c` a member of `p`, unless a check refuses it.
 pub fn join_in(table: &mut Table, p: usize, c: usize) -> Result<(), Refusal>
-    requires sound { SoundTable table.old }
-    ensures sound { SoundTable table.new }
     ensures accounts { table.new.accounts ≡ table.old.accounts }
     ensures answer { result ≡ checks (join_checks table.old.accounts (members_in table.old) p c) }
     ensures after { members_in table.new ≡ where_accepted result (add (members_in table.old) p c) (members_in table.old) }
@@ -42,8 +40,6 @@ pub fn join_in(table: &mut Table, p: usize, c: usize) -> Result<(), Refusal>
 
 /// Ends the membership of `c` in `p`, unless a check refuses it.
 pub fn leave_in(table: &mut Table, p: usize, c: usize) -> Result<(), Refusal>
-    requires sound { SoundTable table.old }
-    ensures sound { SoundTable table.new }
     ensures accounts { table.new.accounts ≡ table.old.accounts }
     ensures answer { result ≡ checks (leave_checks table.old.accounts (members_in table.old) p c) }
     ensures after { members_in table.new ≡ where_accepted result (strike (members_in table.old) p c) (members_in table.old) }

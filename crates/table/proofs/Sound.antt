@@ -1,12 +1,12 @@
 -- What the counts of a sound table say of the memberships that it shows. Assumes nothing.
-use Rattle.std.proofs.Common.{◌≡◌, ℕ, zero, suc, ◌+◌, ◌-◌, ◌*◌, ◌<◌, Bool, true, false, cond, ◌&&◌, eqb, length, drop, sym, refl, ap, ◌∙◌, ap₂, arith}
+use Rattle.std.proofs.Common.{◌≡◌, ℕ, zero, suc, ◌+◌, ◌-◌, ◌*◌, ◌<◌, ◌≤◌, Bool, true, false, cond, ◌&&◌, eqb, List, length, take, drop, sym, refl, ap, ◌∙◌, ap₂, arith}
 use Rattle.std.proofs.lemmas.List.{get_or_default, length-drop, length-take-le, same_lists}
 use Rattle.std.proofs.lemmas.Bool.{and_right, cond-false, ne_eqb}
 use Rattle.lists.proofs.Sums.{sum_same}
 use Rattle.chains.specs.Chains.{Members, Within, Short, NoChain, no_members, count, past}
 use Rattle.chains.specs.Tests.{leads, too_long, too_many}
 use Rattle.chains.proofs.Added.{count_start}
-use Rattle.chains.specs.Table.{row_of}
+use Rattle.chains.specs.Table.{entry, row_of, shown_members, size, table_of}
 use Rattle.chains.proofs.Laid.{laid, laid_at, row_at, row_long}
 use Rattle.chains.proofs.Places.{row_below}
 use Rattle.chains.proofs.Limits.{passes_short}
@@ -16,26 +16,24 @@ use Rattle.chains.proofs.Table.{count_no_members, count_self, none_counted}
 use Rattle.chains.proofs.Told.{leads_none, many_none}
 use Rattle.counts.proofs.Rows.{get_or_row}
 use Rattle.counts.specs.Rows.{LowTable, alone, row, through}
-use Rattle.table.specs.Tables.{FitsIn, SoundTable, count_in, members_in}
+use Rattle.table.specs.Tables.{SoundTable, count_in, members_in}
 use Rattle.table.specs.declared.tables.Table.{Table}
 
--- a table with the counts of a set that passes the tests is sound, and shows the set
-pub shows : (t : Table) (F : Members) → Within t.accounts F →
-    ((a s k : ℕ) → a < t.accounts → s < t.accounts → k < 8 → count_in t a s k ≡ count t.accounts F a s k) → members_in t ≡ F
-shows t F w h = shown_is t.accounts F t.counts.now w h
+-- every table is sound
+pub sound_table : (t : Table) → SoundTable t
+sound_table t = record { fits = (t.holds.few, t.holds.fits); counts = t.laid; short = t.short; few = t.few }
 
-pub sound_with : (t : Table) (F : Members) → FitsIn t → Within t.accounts F →
-    ((a s k : ℕ) → a < t.accounts → s < t.accounts → k < 8 → count_in t a s k ≡ count t.accounts F a s k) →
-    too_long t.accounts F ≡ false → too_many t.accounts F ≡ false → SoundTable t
-sound_with t F fits w h short few =
-    let n = t.accounts in
-    let is = shows t F w h in
-    record {
-      fits = fits;
-      counts = laid n (members_in t) t.counts.now fits.1 (λ a s k ha hs hk. h a s k ha hs hk ∙ ap (λ (G : Members). count n G a s k) (sym is));
-      short = ap (λ (G : Members). too_long n G) is ∙ short;
-      few = ap (λ (G : Members). too_many n G) is ∙ few;
-    }
+-- a list with the counts of a set of memberships shows the set, and begins with the counts of what it shows
+module _ (n : ℕ) (t : List ℕ) (F : Members) (w : Within n F)
+    (h : (a s k : ℕ) → a < n → s < n → k < 8 → entry t n a s k ≡ count n F a s k) where
+  pub laid_with : size n ≤ length t → take (size n) t ≡ table_of n (shown_members n t)
+  laid_with fits = laid n F t fits h ∙ ap (table_of n) (sym (shown_is n F t w h))
+
+  pub short_with : too_long n F ≡ false → too_long n (shown_members n t) ≡ false
+  short_with e = ap (too_long n) (shown_is n F t w h) ∙ e
+
+  pub few_with : too_many n F ≡ false → too_many n (shown_members n t) ≡ false
+  few_with e = ap (too_many n) (shown_is n F t w h) ∙ e
 
 -- without memberships
 pub alone_counts : (n a s k : ℕ) → alone a s k ≡ count n no_members a s k
@@ -46,20 +44,20 @@ alone_counts n a s zero = pick (eqb a s) ∙ sym (count_start n no_members a s)
     pick false = refl
 alone_counts n a s (suc k) = cond-false (eqb a s && eqb (suc k) 0) 1 0 (and_right (eqb a s) (eqb (suc k) 0) (ne_eqb (suc k) 0 (λ e. omega arith))) ∙ sym (count_no_members n a s k)
 
-module _ (t : Table) (sound : SoundTable t) where
+module _ (t : Table) where
   pub at : (a s k : ℕ) → a < t.accounts → s < t.accounts → k < 8 → count_in t a s k ≡ count t.accounts (members_in t) a s k
-  at = laid_at t.accounts (members_in t) t.counts.now sound.counts
+  at = laid_at t.accounts (members_in t) t.counts.now t.laid
 
   pub within : Within t.accounts (members_in t)
   within = shown_within t.accounts t.counts.now
 
   pub is_short : Short (members_in t)
-  is_short = passes_short t.accounts (members_in t) within sound.short
+  is_short = passes_short t.accounts (members_in t) within t.short
 
   pub is_low : LowTable t.accounts t.counts.now
   is_low a s k ha hs hk =
       let here = at a s k ha hs hk in
-      let low = many_none t.accounts (members_in t) sound.few a s k ha hs hk in
+      let low = many_none t.accounts (members_in t) t.few a s k ha hs hk in
       omega arith
 
   pub own : (a : ℕ) → a < t.accounts → count_in t a a 0 ≡ 1
@@ -87,7 +85,7 @@ module _ (t : Table) (sound : SoundTable t) where
   row_shown a s ha hs =
       let n = t.accounts in let xs = t.counts.now in let E = members_in t in
       let inside = row_below n a s ha hs in
-      let fits = sound.fits.1 in
+      let fits = t.holds.fits in
       let behind = length-drop ((a * n + s) * 8) xs in
       let long : length (row xs n a s) ≡ 8 = length-take-le 8 (drop ((a * n + s) * 8) xs) (omega arith) in
       let eight = row_long n E a s in

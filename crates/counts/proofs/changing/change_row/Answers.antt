@@ -5,11 +5,11 @@ use Rattle.counts.proofs.Rows.{through_start}
 use Rattle.counts.proofs.changing.change_row.Goals as goal
 
 pub loop-k-init : goal.loop-k-init
-loop-k-init c =
+loop-k-init g c =
     let up = at_of c.args.up.now in let down = at_of c.args.down.now in (
       (λ j lt.
           let first : j ≡ 0 = omega arith in
-          sym (changed_none c.args.change _ _ (ap (through up down) first ∙ through_start up down))),
+          sym (changed_none g.C.Change.way _ _ (ap (through up down) first ∙ through_start up down))),
       (λ q lt. refl),
       (λ q le. refl),
     )

@@ -2,6 +2,7 @@ use Rattle.std.proofs.Common.{◌≡◌, ℕ, ◌+◌, ◌*◌, ◌<◌, ◌≤�
 use Rattle.std.proofs.lemmas.List.{get_or-set_same, get_or-set_other}
 use Rattle.std.proofs.lemmas.Bool.{cases_eq, cond_above}
 use Rattle.std.proofs.lemmas.Bool.Decides.{nat_tests}
+use Rattle.std.proofs.lemmas.Grind.{common_steps}
 use Rattle.chains.specs.Table.{entry, place, size}
 use Rattle.counts.specs.Rows.{alone}
 use Rattle.chains.proofs.Places.{place_below, same_place}
@@ -9,8 +10,8 @@ use Rattle.counts.proofs.making.clear.Goals as goal
 
 pub loop-a-init : goal.loop-a-init
 loop-a-init c = (
-  λ b s k hb hs hk. cond_above b 0 (alone b s k) 0 _ (omega arith)
-      (c.wipe.ensures.within (place c.args.n b s k) (omega (arith, place_below c.args.n b s k hb hs hk))),
+  λ b s k hb hs hk. let inside : place c.args.n b s k < size c.args.n = place_below c.args.n b s k hb hs hk in
+      cond_above b 0 (alone b s k) 0 _ (omega arith) (grind (arith, common_steps)),
   search rules,
 )
 

@@ -4,5 +4,5 @@ use Rattle.table.proofs.tables.Table.count.Goals as goal
 
 pub returns : goal.returns
 returns c =
-    c.count_at.ensures
-    ∙ at c.args.self.now c.requires.sound c.args.a c.args.s c.args.k c.requires.top c.requires.end c.requires.length
+    (rw (c.view.ensures.numbers, c.view.ensures.accounts) at c.count.ensures)
+    ∙ at c.args.self.now c.args.a c.args.s c.args.k c.requires.top c.requires.end c.requires.length

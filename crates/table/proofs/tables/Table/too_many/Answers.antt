@@ -6,13 +6,12 @@ use Rattle.table.proofs.tables.Table.too_many.Goals as goal
 pub passes-requires : goal.passes-requires
 passes-requires c =
     record {
-      table = search rules;
       group = search rules;
       member = search rules;
-      low = is_low c.args.self.now c.requires.sound;
+      low = rw (c.view.ensures.numbers, c.view.ensures.accounts) (is_low c.args.self.now);
     }
 
 pub returns : goal.returns
 returns c =
-    many_test c.args.self.now c.requires.sound c.args.p c.args.c c.requires.group c.requires.member c.requires.free c.requires.new
-    c.passes.result c.passes.ensures.yes c.passes.ensures.no
+    many_test c.args.self.now c.args.p c.args.c c.requires.group c.requires.member c.requires.free c.requires.new
+    c.passes.result (rw (c.view.ensures.numbers, c.view.ensures.accounts) at c.passes.ensures.yes) (rw (c.view.ensures.numbers, c.view.ensures.accounts) at c.passes.ensures.no)

@@ -1,5 +1,0 @@
-use Rattle.chains.proofs.Limits.{sound_by_tests}
-use Rattle.chains.proofs.sound_by_tests.Goals as goal
-
-pub returns : goal.returns
-returns c = sound_by_tests

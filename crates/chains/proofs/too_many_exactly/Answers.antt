@@ -1,5 +1,0 @@
-use Rattle.chains.proofs.Limits.{too_many_exactly}
-use Rattle.chains.proofs.too_many_exactly.Goals as goal
-
-pub returns : goal.returns
-returns c = too_many_exactly
