@@ -1,6 +1,7 @@
 //! Prints the chains above one item of the channel plan, and an equipment table as it is filled, with every refusal.
 #![tactic(auto)]
 
+use numbered::Numbered;
 use plans::{Channels, Equipment, Plan, item_counts};
 use std::io;
 
@@ -29,8 +30,7 @@ fn print_chains<P: Plan>(rt: &HostRuntime, plan: &P, item: u32) -> io::Result<()
     let height = plan.height(item);
     println!(rt; "chains to item {item}, of height {height}")?;
     let chains = item_counts(plan, item);
-    for above in 0..256u32 {
-        let row = chains.row(above);
+    for (above, row) in chains.counts.iter().enumerate() {
         for (length, count) in row.iter().enumerate() {
             if *count > 0 {
                 println!(rt; "  from item {above}, length {length}: {count}")?;
@@ -40,6 +40,7 @@ fn print_chains<P: Plan>(rt: &HostRuntime, plan: &P, item: u32) -> io::Result<()
     Ok(())
 }
 
+// Prints the item that is added, with its containers.
 fn print_call(
     rt: &HostRuntime,
     item: u32,
@@ -47,15 +48,13 @@ fn print_call(
     second: Option<u32>,
 ) -> io::Result<()> {
     print!(rt; "item {item}")?;
-    if let Some(container) = first {
-        print!(rt; " in {container}")?;
-    }
-    if let Some(container) = second {
+    for container in first.into_iter().chain(second) {
         print!(rt; " in {container}")?;
     }
     Ok(())
 }
 
+// Adds the items of the list, and prints what each call answers.
 fn fill(rt: &HostRuntime, table: &mut Equipment) -> io::Result<()> {
     for (item, first, second) in CALLS {
         print_call(rt, item, first, second)?;

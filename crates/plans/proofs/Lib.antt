@@ -6,9 +6,8 @@ pub mod ListSums
 pub mod ItemChains
 pub mod Filled
 pub mod Added
+pub mod Present
 pub mod FirstStep
 pub mod Entries
-pub mod Longer
 pub mod PassUp
-pub mod First
 pub mod Counted

@@ -17,8 +17,3 @@ entry t b k = slice_index (row_at t b) k
 -- each number, at whatever length, is how many chains of that length lead from the item down to item o
 abbrev pub CountsItems : Items → ℕ → List (List ℕ) → Type 0
 CountsItems M o t = (b k : ℕ) → b < 256 → entry t b k ≡ length (item_chains M b o k)
-
--- 256 rows of 8 numbers
-pub record Full (t : List (List ℕ)) : Type 0 where
-  pub rows : length t ≡ 256
-  pub wide : (b : ℕ) → b < 256 → length (row_at t b) ≡ 8

@@ -24,6 +24,10 @@ containers_at places item = both (place_at places item).first (place_at places i
 abbrev pub height_at : List Place → ℕ → ℕ
 height_at places item = (place_at places item).height
 
+-- the place of an item, where one fills it
+abbrev pub filled_place : List Place → ℕ → ℕ → Option Place
+filled_place places filled item = cond (nat_lt item filled) (Some (place_at places item)) None
+
 -- the first places hold the items 0, 1, 2 and so on; the rest hold nothing
 abbrev pub equipment : List Place → ℕ → Items
 equipment places filled = record {

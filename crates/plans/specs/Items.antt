@@ -1,12 +1,17 @@
 -- What a plan of items means, what every plan keeps, and the item chains that its containers form. Assumes nothing.
-use Rattle.std.specs.Prelude.{◌≡◌, ℕ, zero, suc, ◌<◌, ◌≤◌, max, Bool, true, false, cond, List, [], ◌∷◌, map, length, ◌==◌}
+use Rattle.std.specs.Prelude.{◌≡◌, ℕ, zero, suc, ◌<◌, ◌≤◌, max, Bool, true, false, cond, List, [], ◌∷◌, map, length, Option, ◌==◌}
 use Rattle.std.specs.List.{AllByRecursion}
+use Rattle.std.specs.Option.{option_to_list}
 use Rattle.lists.specs.Lists.{join_all, Once}
 
 -- the items that are known, and the containers that each item lies in, in order
 pub record Items : Type 0 where
   pub known : ℕ → Bool
   pub containers : ℕ → List ℕ
+
+-- the containers that are there, in order
+abbrev pub present : List (Option ℕ) → List ℕ
+present containers = join_all option_to_list containers
 
 -- one more than the largest of f over a list; 0 for an empty list
 abbrev pub tallest : (ℕ → ℕ) → List ℕ → ℕ

@@ -1,7 +1,7 @@
 ghost use Rattle.plans.specs.Channels.{channels};
 ghost use Rattle.plans.specs.Halves.{channels_lawful};
 
-use crate::plan::Plan;
+use crate::plan::{Containers, Plan};
 
 /// The channel plan: items 1 to 255 are known, item 1 lies in nothing, and item n above 1 lies in n / 2, the fraction dropped.
 #[derive(Clone, Copy)]
@@ -16,15 +16,11 @@ impl Plan for Channels {
         0 < item && item < 256
     }
 
-    fn containers(&self, item: u32) -> usize {
-        if 1 < item && item < 256 { 1 } else { 0 }
-    }
-
-    fn container(&self, item: u32, k: usize) -> Option<u32> {
-        if k < self.containers(item) {
-            Some(item / 2)
+    fn containers(&self, item: u32) -> Containers {
+        if 1 < item && item < 256 {
+            [Some(item / 2), None]
         } else {
-            None
+            [None; 2]
         }
     }
 

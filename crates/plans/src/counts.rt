@@ -2,29 +2,28 @@ ghost use Rattle.std.specs.Prelude.{◌≡◌, ℕ, ◌<◌, ◌≤◌, length, 
 ghost use Rattle.lists.specs.Lists.{some};
 ghost use Rattle.plans.specs.Counts.{row_at, row_read, entry};
 
-/// A number for each length, 0 to 7.
-pub type Lengths = [u32; 8];
+use crate::plan::ITEMS;
 
-/// How many chains of each length, 0 to 7, lead from each item down to one item: a row of eight numbers for each of 256 items.
+/// How many lengths an item chain can have: 0 to 7.
+pub const LENGTHS: usize = 8;
+
+/// A number for each length.
+pub type Lengths = [u32; LENGTHS];
+
+/// How many chains of each length lead from each item down to one item.
 #[derive(Drop)]
 pub struct ItemCounts {
-    pub counts: [[u32; 8]; 256],
-    ghost rows: { length counts ≡ 256 },
+    pub counts: [Lengths; ITEMS],
     ghost wide: { (b : ℕ) → b < 256 → length (row_at counts b) ≡ 8 },
     ghost few: { (b k : ℕ) → b < 256 → entry counts b k ≤ 128 },
 }
 
 impl ItemCounts {
-    /// How many chains of each length, 0 to 7, lead down from an item: none from an item above 255.
+    /// How many chains of each length lead down from an item: none from an item above 255.
     pub fn row(&self, b: u32) -> Lengths
         ensures answer { result ≡ row_read self.now.counts b }
-        ensures len { length result ≡ 8 }
     {
-        if b < 256 {
-            self.counts[b as usize]
-        } else {
-            [0; 8]
-        }
+        self.counts.get(b as usize).copied().unwrap_or([0; LENGTHS])
     }
 
     /// Does a chain of any length lead down from the item?
@@ -39,10 +38,5 @@ impl ItemCounts {
 pub fn any_chain(row: &[u32]) -> bool
     ensures answer { result ≡ some (nat_lt 0) row.now }
 {
-    for count in row {
-        if *count > 0 {
-            return true;
-        }
-    }
-    false
+    row.iter().any(|count| *count > 0)
 }

@@ -11,7 +11,7 @@ mod refusal;
 
 pub use channels::Channels;
 pub use counting::item_counts;
-pub use counts::{ItemCounts, any_chain};
+pub use counts::{ItemCounts, LENGTHS, Lengths, any_chain};
 pub use equipment::Equipment;
-pub use plan::Plan;
+pub use plan::{Containers, ITEMS, Plan};
 pub use refusal::EquipmentRefusal;

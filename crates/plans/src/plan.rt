@@ -1,6 +1,11 @@
-ghost use Rattle.std.specs.Prelude.{◌≡◌, length};
-ghost use Rattle.std.specs.List.{slice_get};
-ghost use Rattle.plans.specs.Items.{Items, Lawful, height_of};
+ghost use Rattle.std.specs.Prelude.{◌≡◌};
+ghost use Rattle.plans.specs.Items.{Items, Lawful, height_of, present};
+
+/// No plan knows an item of this number or above.
+pub const ITEMS: usize = 256;
+
+/// The containers that an item lies in, in order: none, one or two.
+pub type Containers = [Option<u32>; 2];
 
 /// A plan tells, for every number, whether the item is known and in which containers it lies.
 ///
@@ -15,13 +20,9 @@ pub trait Plan {
     fn known(&self, item: u32) -> bool
         ensures answer { result ≡ (meaning self.now).known item };
 
-    /// How many containers the item lies in.
-    fn containers(&self, item: u32) -> usize
-        ensures answer { result ≡ length ((meaning self.now).containers item) };
-
-    /// The item's container at place `k`, counted from 0; none past the last.
-    fn container(&self, item: u32, k: usize) -> Option<u32>
-        ensures answer { result ≡ slice_get ((meaning self.now).containers item) k };
+    /// The containers that the item lies in.
+    fn containers(&self, item: u32) -> Containers
+        ensures answer { present result ≡ (meaning self.now).containers item };
 
     /// The length of the longest run of containers above the item.
     fn height(&self, item: u32) -> u32

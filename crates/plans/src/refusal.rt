@@ -1,8 +1,9 @@
-ghost use Rattle.std.specs.Prelude.{◌≡◌};
 ghost use Rattle.plans.specs.Refusals.{refusal_number};
 
+use numbered::Numbered;
+
 /// Why the equipment table does not take an item.
-#[derive(Clone, Copy, PartialEq, Eq)]
+#[derive(Clone, Copy, PartialEq, Eq, Debug)]
 pub enum EquipmentRefusal {
     /// The item is not the next number, or is 256.
     NotNext = 13,
@@ -12,11 +13,11 @@ pub enum EquipmentRefusal {
     TooHigh = 15,
 }
 
-impl EquipmentRefusal {
-    /// The number of the refusal, 13 to 15.
-    pub fn number(self) -> u32
-        ensures answer { result ≡ refusal_number self }
-    {
+/// The refusals have the numbers 13 to 15.
+impl Numbered for EquipmentRefusal {
+    ghost number_of = { refusal_number };
+
+    fn number(self) -> u32 {
         self as u32
     }
 }

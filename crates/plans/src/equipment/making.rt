@@ -4,6 +4,7 @@ ghost use Rattle.plans.specs.Table.{table};
 
 use crate::equipment::Equipment;
 use crate::place::Place;
+use crate::plan::ITEMS;
 
 impl Equipment {
     /// A table that knows nothing.
@@ -16,7 +17,7 @@ impl Equipment {
             height: 0,
         };
         Equipment {
-            places: [blank; 256],
+            places: [blank; ITEMS],
             filled: 0,
         }
     }

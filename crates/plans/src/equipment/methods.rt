@@ -1,7 +1,7 @@
 ghost use Rattle.std.specs.Prelude.{◌≡◌, OnErr};
 ghost use Rattle.std.specs.Option.{option_to_list};
 ghost use Rattle.plans.specs.Items.{tallest, height_of};
-ghost use Rattle.plans.specs.Equipment.{twice};
+ghost use Rattle.plans.specs.Equipment.{filled_place, twice};
 ghost use Rattle.plans.specs.Laws.{HeightIsLongest};
 ghost use Rattle.plans.specs.Filling.{some_unknown, add_answer, add_after};
 ghost use Rattle.plans.specs.Table.{table};
@@ -9,11 +9,8 @@ ghost use Rattle.plans.specs.Sound.{equipment_lawful};
 
 use crate::equipment::Equipment;
 use crate::place::Place;
-use crate::plan::Plan;
+use crate::plan::{Containers, ITEMS, Plan};
 use crate::refusal::EquipmentRefusal;
-
-// How many places the table has.
-const PLACES: u32 = 256;
 
 // The most containers that a run has.
 const HIGHEST: u32 = 7;
@@ -27,61 +24,43 @@ impl Plan for Equipment {
         item < self.filled
     }
 
-    fn containers(&self, item: u32) -> usize {
-        if item >= self.filled {
-            return 0;
-        }
-        let place = self.places[item as usize];
-        let mut count = 0;
-        if place.first.is_some() {
-            count += 1;
-        }
-        if place.second.is_some() {
-            count += 1;
-        }
-        count
-    }
-
-    fn container(&self, item: u32, k: usize) -> Option<u32> {
-        if item >= self.filled {
-            return None;
-        }
-        let place = self.places[item as usize];
-        match (place.first, k) {
-            (Some(first), 0) => Some(first),
-            (Some(_), 1) => place.second,
-            (None, 0) => place.second,
-            _ => None,
+    fn containers(&self, item: u32) -> Containers {
+        // A match and not `map_or`: of the array that its closure gives, no proof closed.
+        match self.place(item) {
+            Some(place) => [place.first, place.second],
+            None => [None; 2],
         }
     }
 
     fn height(&self, item: u32) -> u32 {
-        if item >= self.filled {
-            return 0;
-        }
-        self.places[item as usize].height
+        self.place(item).map_or(0, |place| place.height)
     }
 }
 
 impl Equipment {
+    // The place that the item fills, if it is known.
+    fn place(&self, item: u32) -> Option<Place>
+        ensures answer { result ≡ filled_place self.now.places self.now.filled item }
+    {
+        if self.known(item) {
+            Some(self.places[item as usize])
+        } else {
+            None
+        }
+    }
+
     // Is this container, where there is one, not known?
     fn lacks(&self, container: Option<u32>) -> bool
         ensures answer { result ≡ some_unknown (table self.now) (option_to_list container) }
     {
-        match container {
-            Some(c) => !self.known(c),
-            None => false,
-        }
+        container.is_some_and(|c| !self.known(c))
     }
 
     // The height of an item that lies in this container alone.
     fn height_in(&self, container: Option<u32>) -> u32
         ensures answer { result ≡ tallest (height_of (table self.now)) (option_to_list container) }
     {
-        match container {
-            Some(c) => self.height(c) + 1,
-            None => 0,
-        }
+        container.map_or(0, |c| self.height(c) + 1)
     }
 
     /// Adds the next item, with the containers that it lies in. A second container behind a missing first is its only one.
@@ -99,7 +78,7 @@ impl Equipment {
         ensures same { OnErr result (self.new ≡ self.old) }
         ensures height { HeightIsLongest }
     {
-        if item != self.filled || item == PLACES {
+        if item != self.filled || item as usize == ITEMS {
             return Err(EquipmentRefusal::NotNext);
         }
         if self.lacks(first) || self.lacks(second) || same(first, second) {
@@ -123,8 +102,5 @@ impl Equipment {
 fn same(first: Option<u32>, second: Option<u32>) -> bool
     ensures answer { result ≡ twice first second }
 {
-    match (first, second) {
-        (Some(a), Some(b)) => a == b,
-        _ => false,
-    }
+    first.is_some() && first == second
 }

@@ -1,7 +1,6 @@
 use Rattle.std.proofs.Common.{sym}
 use mathlib.Core.List.Memᴰ
 use Rattle.plans.specs.Laws.{FewBetweenTwo, FewToAnItem, ItemListingIsExact, NoLongerChain}
-use Rattle.plans.proofs.Counted.{counts_few}
 use Rattle.plans.proofs.ItemChains.{all_lengths_few, chain_short, chains_few, chains_few_together, own_lengths_few}
 use Rattle.plans.proofs.Listing.{listed_is_chain, chain_is_listed, listed_once}
 use Rattle.plans.proofs.Unique.{chain_from_items}
@@ -22,13 +21,6 @@ few M lawful o = (λ items k. chains_few_together M lawful items k o, λ items l
 
 between : FewBetweenTwo
 between M lawful b o = (λ k. chains_few M lawful k b o, λ lengths. own_lengths_few M lawful lengths b o)
-
-pub invariant_of-result : goal.invariant_of-result
-invariant_of-result g c = record {
-  rows = c.counts_to.ensures.full.rows;
-  wide = c.counts_to.ensures.full.wide;
-  few = counts_few (g.P.Plan.meaning c.args.plan.now) (g.met.P.Plan.lawful c.args.plan.now) _ c.counts_to.result c.counts_to.ensures.counted;
-}
 
 pub returns : goal.returns
 returns g c = record { counted = c.counts_to.ensures.counted; listed = exact; short = short; few = few; between = between }

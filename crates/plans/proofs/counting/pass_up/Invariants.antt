@@ -1,6 +1,9 @@
-use Rattle.plans.specs.Counts.{entry, Full}
+use Rattle.std.proofs.Common.{drop}
+use Rattle.plans.specs.Items.{present}
+use Rattle.plans.specs.Counts.{entry}
 use Rattle.plans.specs.Above.{Passing}
 use Rattle.plans.proofs.counting.pass_up.Given as goal
 
-abbrev pub invariant-loop-place : goal.invariant-loop-place
-invariant-loop-place g l = Full l.counts × Passing (g.P.Plan.meaning l.plan) l.o l.item l.place (entry l.counts)
+abbrev pub invariant-loop-container : goal.invariant-loop-container
+invariant-loop-container g l =
+    Passing (g.P.Plan.meaning l.plan) l.o l.item (present (drop l.container-index l.container-items)) (entry l.chains.counts)

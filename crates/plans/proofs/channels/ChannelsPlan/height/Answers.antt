@@ -7,6 +7,3 @@ returns-then-known c = record {
   answer = sym (height_by_digit c.ilog2.result c.args.item c.ilog2.ensures.power_le c.ilog2.ensures.next_power_gt
       (channels_lawful.small c.args.item (sym c.if-known.ensures.answer)));
 }
-
-pub returns-else-known : goal.returns-else-known
-returns-else-known c = record { answer = sym (channels_lawful.flat c.args.item (sym c.if-known.ensures.answer)) }
