@@ -1,5 +1,5 @@
 -- In distances the walk finds the least one. Assumes nothing.
-use Rattle.std.proofs.Common.{◌≡◌, ℕ, zero, suc, ◌+◌, ◌<◌, ◌≤◌, min, ◌⊎◌, List, [], ◌∷◌, map, refl, ap, inl, inr, arith}
+use Rattle.std.proofs.Common.{◌≡◌, ℕ, zero, suc, ◌+◌, ◌<◌, ◌≤◌, min, List, [], ◌∷◌, map, Option, Some, None, IsSomeAnd, sym, refl, ap, ◌∙◌, subst, ⊎_elim, arith}
 use mathlib.Core.List.Memᴰ
 use mathlib.Core.List.{Memᴰ}
 use Rattle.std.proofs.lemmas.Bool.{cases_lt}
@@ -9,28 +9,58 @@ use Rattle.chains.proofs.Listing.{below_has, below_bound, counted_is_chain, chai
 use Rattle.chains.proofs.Steps.{chain_top_known}
 use Rattle.walk.specs.Weights.{total, times, arriving, arrivals}
 use Rattle.walk.specs.Least.{none, lesser, further}
+use Rattle.walk.specs.Distances.{step_on, step_off}
 use Rattle.walk.specs.Meaning.{Nearest}
-use Rattle.walk.specs.declared.least.Least.{Least}
 use Rattle.walk.proofs.Listed.{join_in, join_out, each_in, each_out}
 
-total_le : (ws : List Least) {w : Least} → Memᴰ w ws → (total none lesser ws).distance ≤ w.distance
+lesser_left : (x : ℕ) (r : Option ℕ) → IsSomeAnd (lesser (Some x) r) (λ y. y ≤ x)
+lesser_left x None = omega arith
+lesser_left x (Some y) = omega arith
+
+lesser_right : (v r : Option ℕ) (x : ℕ) → IsSomeAnd r (λ y. y ≤ x) → IsSomeAnd (lesser v r) (λ y. y ≤ x)
+lesser_right None r x h = h
+lesser_right (Some z) None x h = absurd h
+lesser_right (Some z) (Some y) x h = omega arith
+
+-- the sum of distances is no more than any of them
+total_le : (ws : List (Option ℕ)) {x : ℕ} → Memᴰ (Some x) ws → IsSomeAnd (total none lesser ws) (λ y. y ≤ x)
 total_le [] m = absurd (Memᴰ.not-nil m)
-total_le (v ∷ ws) (Memᴰ.head e) = omega (arith, ap (λ z. z.distance) e)
-total_le (v ∷ ws) (Memᴰ.tail m) = omega (arith, total_le ws m)
+total_le (v ∷ ws) {x} (Memᴰ.head e) = subst (λ u. IsSomeAnd (lesser u (total none lesser ws)) (λ y. y ≤ x)) e (lesser_left x (total none lesser ws))
+total_le (v ∷ ws) {x} (Memᴰ.tail m) = lesser_right v (total none lesser ws) x (total_le ws m)
 
-total_some : (ws : List Least) → (total none lesser ws).distance < 255 → (w : Least) × Memᴰ w ws × ((total none lesser ws).distance ≡ w.distance)
-total_some [] h = absurd (omega arith)
-total_some (v ∷ ws) h = go (cases_lt (total none lesser ws).distance v.distance) (λ l. total_some ws l)
+-- and is one of them
+total_some : (ws : List (Option ℕ)) (y : ℕ) → total none lesser ws ≡ Some y → Memᴰ (Some y) ws
+total_some [] y h = absurd (cc)
+total_some (None ∷ ws) y h = Memᴰ.tail (total_some ws y h)
+total_some (Some z ∷ ws) y h = go (total none lesser ws) (λ e. total_some ws y e) h
   where
-    go : ((total none lesser ws).distance < v.distance) ⊎ (v.distance ≤ (total none lesser ws).distance) → ((total none lesser ws).distance < 255 → (w : Least) × Memᴰ w ws × ((total none lesser ws).distance ≡ w.distance)) → (w : Least) × Memᴰ w (v ∷ ws) × ((total none lesser (v ∷ ws)).distance ≡ w.distance)
-    go (inl l) later = let t = later (omega arith) in (t.0, Memᴰ.tail t.1, omega (arith, t.2))
-    go (inr l) later = (v, Memᴰ.head refl, omega arith)
+    go : (r : Option ℕ) → (r ≡ Some y → Memᴰ (Some y) ws) → lesser (Some z) r ≡ Some y → Memᴰ (Some y) (Some z ∷ ws)
+    go None later h' = Memᴰ.head (sym h')
+    go (Some u) later h' =
+        let least : min z u ≡ y = cc in
+        ⊎_elim (λ l. let same : u ≡ y = omega arith in Memᴰ.tail (later (ap (λ n. Some n) same)))
+        (λ g. let same : y ≡ z = omega arith in Memᴰ.head (ap (λ n. Some n) same)) (cases_lt u z)
 
-further_times : (k : ℕ) (w : Least) → (times further k w).distance ≡ min (w.distance + k) 255
-further_times zero w = omega (arith, w.fits)
-further_times (suc k) w = omega (arith, further_times k w)
+-- k steps, forward and back
+further_times : (k x : ℕ) → x + k ≤ 254 → times further k (Some x) ≡ Some (x + k)
+further_times zero x h = let e : x ≡ x + 0 = omega arith in ap (λ n. Some n) e
+further_times (suc k) x h =
+    let e : x + k + 1 ≡ x + suc k = omega arith in
+    ap further (further_times k x (omega arith)) ∙ step_on (x + k) (omega arith) ∙ ap (λ n. Some n) e
 
-module _ (n : ℕ) (E : Members) (w : Within n E) (start : ℕ → Least) (s : ℕ) (known : s < n) where
+further_back : (w : Option ℕ) (y : ℕ) → further w ≡ Some y → (x : ℕ) × (w ≡ Some x) × (y ≡ x + 1)
+further_back None y h = absurd (cc)
+further_back (Some x) y h =
+    ⊎_elim (λ l. let there = step_on x l in let e : x + 1 ≡ y = cc in (x, refl, sym e)) (λ g. let none = step_off x g in absurd (cc)) (cases_lt x 254)
+
+times_back : (k : ℕ) (w : Option ℕ) (y : ℕ) → times further k w ≡ Some y → (x : ℕ) × (w ≡ Some x) × (y ≡ x + k)
+times_back zero w y h = (y, h, omega arith)
+times_back (suc k) w y h =
+    let last = further_back (times further k w) y h in
+    let rest = times_back k w last.0 last.1 in
+    (rest.0, rest.1, omega (arith, last.2, rest.2))
+
+module _ (n : ℕ) (E : Members) (w : Within n E) (start : ℕ → Option ℕ) (s : ℕ) (known : s < n) where
   listed : (a k : ℕ) → k ≤ 7 → Chain E a k s → Memᴰ (times further k (start a)) (arrivals further n E start s 8)
   unfolding arrivals count
   listed a k short c =
@@ -38,7 +68,7 @@ module _ (n : ℕ) (E : Members) (w : Within n E) (start : ℕ → Least) (s : �
       (join_in (λ b. map (λ path. times further k (start b)) (chains n E b s k)) (below n) (below_has n a (chain_top_known w known c))
       (each_in (times further k (start a)) (chains n E a s k) (chain_is_counted n E w c)))
 
-  from_list : {x : Least} → Memᴰ x (arrivals further n E start s 8) → (a : ℕ) × (k : ℕ) × (k ≤ 7) × Chain E a k s × (x ≡ times further k (start a))
+  from_list : {x : Option ℕ} → Memᴰ x (arrivals further n E start s 8) → (a : ℕ) × (k : ℕ) × (k ≤ 7) × Chain E a k s × (x ≡ times further k (start a))
   unfolding arrivals count
   from_list m =
       let long = join_out (arriving further n E start s) (below 8) m in
@@ -48,16 +78,17 @@ module _ (n : ℕ) (E : Members) (w : Within n E) (start : ℕ → Least) (s : �
       let short : k < 8 = below_bound 8 k long.1 in
       (top.0, k, omega arith, counted_is_chain n E top.0 s k last.0, last.1)
 
-  least : (a k : ℕ) → k ≤ 7 → Chain E a k s → (total none lesser (arrivals further n E start s 8)).distance ≤ (start a).distance + k
-  least a k short c = omega (arith, total_le (arrivals further n E start s 8) (listed a k short c), further_times k (start a))
+  least : (a x k : ℕ) → start a ≡ Some x → k ≤ 7 → Chain E a k s → x + k ≤ 254 → IsSomeAnd (total none lesser (arrivals further n E start s 8)) (λ y. y ≤ x + k)
+  least a x k e short c low =
+      let ws = arrivals further n E start s 8 in
+      total_le ws (subst (λ w. Memᴰ w ws) (ap (times further k) e ∙ further_times k x low) (listed a k short c))
 
-  pub nearest : Nearest E (λ a. (start a).distance) s (total none lesser (arrivals further n E start s 8)).distance
+  pub nearest : Nearest E start s (total none lesser (arrivals further n E start s 8))
   nearest = record {
-    fits = (total none lesser (arrivals further n E start s 8)).fits;
     least = least;
-    every = λ short a k c. let l = short a s k c in least a k (omega arith) c;
-    reached = λ h.
-        let t = total_some (arrivals further n E start s 8) h in
-        let o = from_list t.1 in
-        (o.0, o.1, o.2, o.3, omega (arith, t.2, ap (λ x. x.distance) o.4, further_times o.1 (start o.0)));
+    every = λ short a x k e c low. let l = short a s k c in least a x k e (omega arith) c low;
+    reached = λ y h.
+        let o = from_list (total_some (arrivals further n E start s 8) y h) in
+        let top = times_back o.1 (start o.0) y (sym o.4) in
+        (o.0, top.0, o.1, o.2, o.3, top.1, top.2);
   }

@@ -4,7 +4,7 @@ pub mod AllChains
 pub mod AnyOrder
 pub mod EveryChain
 pub mod Listed
-pub mod Shown
 pub mod Carried
 pub mod RowMeans
 pub mod LeastMeans
+pub mod FromFn

@@ -1,20 +1,36 @@
 -- The laws of distances. Assumes nothing.
-use Rattle.std.specs.Prelude.{◌≡◌, ◌≤◌}
-use mathlib.Core.HLevel.{is_prop→PathP}
-use Rattle.std.proofs.Math.Bridge.{le_prop}
-use Rattle.std.proofs.Common.{arith}
+use Rattle.std.specs.Prelude.{◌≡◌, ℕ, ◌+◌, ◌<◌, ◌≤◌, min, Option, Some, None, refl}
+use Rattle.std.proofs.Common.{ap, arith, ⊎_elim}
+use Rattle.std.proofs.lemmas.Bool.Decides.{nat_tests}
+use Rattle.std.proofs.lemmas.Bool.{lt-ltb, le-ltb, cases_lt}
 use Rattle.walk.specs.Weights.{Laws}
 use Rattle.walk.specs.Least.{none, lesser, further}
-use Rattle.walk.specs.declared.least.Least.{Least}
 
-pub same_distance : (x y : Least) → x.distance ≡ y.distance → x ≡ y
-same_distance x y p = λ i. record { distance = p i; fits = is_prop→PathP (λ j. p j ≤ 255) (λ j. le_prop) x.fits y.fits i }
+assoc : (x y z : Option ℕ) → lesser (lesser x y) z ≡ lesser x (lesser y z)
+assoc None y z = refl
+assoc (Some x) None z = refl
+assoc (Some x) (Some y) None = refl
+assoc (Some x) (Some y) (Some z) = let e : min (min x y) z ≡ min x (min y z) = omega arith in ap (λ n. Some n) e
+
+comm : (x y : Option ℕ) → lesser x y ≡ lesser y x
+comm None None = refl
+comm None (Some y) = refl
+comm (Some x) None = refl
+comm (Some x) (Some y) = let e : min x y ≡ min y x = omega arith in ap (λ n. Some n) e
+
+-- what a step gives
+pub step_on : (x : ℕ) → x < 254 → further (Some x) ≡ Some (x + 1)
+step_on x l = rw (lt-ltb x 254 l)
+
+pub step_off : (x : ℕ) → 254 ≤ x → further (Some x) ≡ None
+step_off x l = rw (le-ltb x 254 l)
+
+-- a step later, a lesser distance is the lesser
+spreads : (x y : Option ℕ) → further (lesser x y) ≡ lesser (further x) (further y)
+spreads None y = refl
+spreads (Some x) None =
+    ⊎_elim (λ l. rw (lt-ltb x 254 l)) (λ g. rw (le-ltb x 254 g)) (cases_lt x 254)
+spreads (Some x) (Some y) = grind (arith, nat_tests)
 
 pub least_laws : Laws none lesser further
-least_laws = record {
-  assoc = λ x y z. same_distance (lesser (lesser x y) z) (lesser x (lesser y z)) (omega arith);
-  comm = λ x y. same_distance (lesser x y) (lesser y x) (omega arith);
-  neutral = λ x. same_distance (lesser none x) x (omega arith);
-  keeps = same_distance (further none) none (omega arith);
-  spreads = λ x y. same_distance (further (lesser x y)) (lesser (further x) (further y)) (omega arith);
-}
+least_laws = record { assoc = assoc; comm = comm; neutral = λ x. refl; keeps = refl; spreads = spreads }

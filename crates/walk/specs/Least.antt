@@ -1,16 +1,17 @@
 -- A distance or none as a weight. Assumes nothing.
-use Rattle.std.specs.Prelude.{◌+◌, min}
-use Rattle.std.proofs.Common.{arith}
-use Rattle.walk.specs.declared.least.Least.{Least}
+use Rattle.std.specs.Prelude.{ℕ, ◌+◌, min, cond, nat_lt, Option, Some, None}
 
 -- no distance
-abbrev pub none : Least
-none = record { distance = 255; fits = omega arith }
+abbrev pub none : Option ℕ
+none = None
 
 -- the lesser of two distances; none is more than any
-abbrev pub lesser : Least → Least → Least
-lesser x y = record { distance = min x.distance y.distance; fits = omega arith }
+abbrev pub lesser : Option ℕ → Option ℕ → Option ℕ
+lesser None y = y
+lesser (Some x) None = Some x
+lesser (Some x) (Some y) = Some (min x y)
 
--- one further, up to 255, which is none
-abbrev pub further : Least → Least
-further x = record { distance = min (x.distance + 1) 255; fits = omega arith }
+-- one further, up to 254: beyond that there is none
+abbrev pub further : Option ℕ → Option ℕ
+further None = None
+further (Some x) = cond (nat_lt x 254) (Some (x + 1)) None

@@ -2,14 +2,13 @@
 ghost use Rattle.walk.specs.Least.{none, lesser, further};
 ghost use Rattle.walk.specs.Distances.{least_laws};
 
-use crate::least::Least;
 use crate::weight::Weight;
 
-/// No distance.
-pub const NONE: u8 = 255;
+// A step that would go beyond this distance leads to none.
+const FURTHEST: u8 = 254;
 
-/// Adding takes the lesser distance, and a step adds one to it, up to 255, which is none.
-impl Weight for Least {
+/// Adding takes the lesser distance, and a step adds one to it.
+impl Weight for Option<u8> {
     ghost nothing = { none };
 
     ghost plus = { lesser };
@@ -18,23 +17,23 @@ impl Weight for Least {
 
     ghost lawful = { least_laws };
 
-    fn nothing() -> Least {
-        Least { distance: NONE }
+    fn nothing() -> Option<u8> {
+        None
     }
 
-    fn plus(&self, other: &Least) -> Least {
-        Least {
-            distance: self.distance.min(other.distance),
+    fn plus(&self, other: &Option<u8>) -> Option<u8> {
+        match (*self, *other) {
+            (Some(x), Some(y)) => Some(x.min(y)),
+            (x, y) => x.or(y),
         }
     }
 
-    fn step(&self) -> Least {
-        Least {
-            distance: self.distance.saturating_add(1),
-        }
+    fn step(&self) -> Option<u8> {
+        self.and_then(|distance| distance.checked_add(1))
+            .filter(|distance| *distance <= FURTHEST)
     }
 
     fn is_nothing(&self) -> bool {
-        self.distance == NONE
+        self.is_none()
     }
 }

@@ -2,7 +2,6 @@
 //! rows of counts, and a distance or none.
 #![tactic(auto)]
 
-pub mod least;
 pub mod least_weight;
 pub mod meaning;
 pub mod row_weight;

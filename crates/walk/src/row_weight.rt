@@ -1,9 +1,19 @@
 // A row of counts as a weight.
-ghost use Rattle.walk.specs.Counts.{no_counts, added, later};
+ghost use Rattle.std.specs.Prelude.{◌≡◌, ◌+◌, ◌<◌, ◌^◌};
+ghost use Rattle.walk.specs.Counts.{no_counts, added, later, limited};
 ghost use Rattle.walk.specs.RowLaws.{row_laws};
 
 use crate::weight::Weight;
-use strategies::rows::{DISTANCES, MOST, Row};
+use std::array;
+use strategies::rows::{MOST, Row};
+
+/// Two counts together, up to a million million.
+pub fn together(x: u64, y: u64) -> u64
+    requires { x + y < 2 ^ 64 }
+    ensures { result ≡ limited (x + y) }
+{
+    (x + y).min(MOST)
+}
 
 /// Rows add place by place, up to a million million; a step moves each count one distance on, and the last falls off.
 impl Weight for Row {
@@ -16,31 +26,22 @@ impl Weight for Row {
     ghost lawful = { row_laws };
 
     fn nothing() -> Row {
-        Row { counts: [0; 15] }
+        Row::none()
     }
 
     fn plus(&self, other: &Row) -> Row {
-        let mut counts = [0; 15];
-        for d in 0..DISTANCES {
-            counts[d] = (self.counts[d] + other.counts[d]).min(MOST);
+        Row {
+            counts: array::from_fn(|d| together(self.counts[d], other.counts[d])),
         }
-        Row { counts }
     }
 
     fn step(&self) -> Row {
-        let mut counts = [0; 15];
-        for d in 1..DISTANCES {
-            counts[d] = self.counts[d - 1];
+        Row {
+            counts: array::from_fn(|d| if d == 0 { 0 } else { self.counts[d - 1] }),
         }
-        Row { counts }
     }
 
     fn is_nothing(&self) -> bool {
-        for d in 0..DISTANCES {
-            if self.counts[d] != 0 {
-                return false;
-            }
-        }
-        true
+        self.counts.iter().all(|count| *count == 0)
     }
 }

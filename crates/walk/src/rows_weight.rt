@@ -6,6 +6,7 @@ use crate::weight::Weight;
 use strategies::rows::{Row, Rows};
 
 /// Each mark's row adds and steps by itself.
+// Written row by row: a helper over the three rows would need a closure for each method, and say no less.
 impl Weight for Rows {
     ghost nothing = { no_rows };
 

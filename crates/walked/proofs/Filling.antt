@@ -22,7 +22,6 @@ use Rattle.walked.proofs.Taking.{given_wrong, or_false}
 pub from_none : (grants : List Grant) (L : Lengths) (r : ℕ) (x : Starts) → NothingYet x → FromGrants (take 0 grants) L r x
 unfolding started labelled_by
 from_none grants L r x none = record {
-  full = none.full;
   signed = λ a l sign d h. ap (λ z. row_at z (Signed sign) d) (none.start a l) ∙ empty (Signed sign) d h;
   default = λ a d l h. ap (λ z. row_at z Default d) (none.start a l) ∙ empty Default d h;
   held = λ a l. none.held a l;
@@ -49,7 +48,6 @@ module _ (grants : List Grant) (L : Lengths) (r i : ℕ) (g other : Grant) (with
   -- a grant of the right
   pub from_more : (x y : Starts) → g.right ≡ r → FromGrants (take i grants) L r x → OneMore L g x y → FromGrants (take (i + 1) grants) L r y
   from_more x y right before one = record {
-    full = one.full;
     signed = λ a l sign d h.
         let more = started_more a sign d in
         let was = before.signed a l sign d h in
@@ -65,7 +63,6 @@ module _ (grants : List Grant) (L : Lengths) (r i : ℕ) (g other : Grant) (with
   -- a grant of another right
   pub from_skip : (x : Starts) → (g.right ≡ r → ⊥) → FromGrants (take i grants) L r x → FromGrants (take (i + 1) grants) L r x
   from_skip x ne before = record {
-    full = before.full;
     signed = λ a l sign d h.
         let more = started_more a sign d in
         let none = given_wrong L g a r sign d ne in

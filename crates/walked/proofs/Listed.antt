@@ -18,7 +18,8 @@ use Rattle.model.specs.Model.{Model}
 use Rattle.model.specs.Question.{listing, nearest_of}
 use Rattle.model.proofs.Bounds.{Near, counted_le, listed_near}
 use Rattle.model.proofs.Counting.{counted_signed, counted_default}
-use Rattle.walked.specs.Asked.{RowsBy, FirstIfAny}
+use Rattle.walked.specs.Asked.{RowsBy}
+use Rattle.walked.specs.Distances.{FirstIfAny}
 use Rattle.walked.proofs.Lengths.{Agree, of_grants_same, of_accounts_same}
 
 -- nothing is counted past distance 14

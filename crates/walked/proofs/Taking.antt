@@ -1,5 +1,5 @@
 -- Taking in one grant raises the starting marks by what the grant gives. Assumes nothing.
-use Rattle.std.proofs.Common.{◌≡◌, ℕ, ◌+◌, ◌<◌, ◌≤◌, Bool, true, false, cond, ◌&&◌, ◌||◌, eqb, ltb, ◌⊎◌, List, length, get_or, sym, refl, ap, ◌∙◌, subst, inl, inr, arith, length-set}
+use Rattle.std.proofs.Common.{◌≡◌, ℕ, ◌+◌, ◌<◌, ◌≤◌, Bool, true, false, cond, ◌&&◌, ◌||◌, eqb, ltb, ◌⊎◌, List, length, get_or, sym, refl, ap, ◌∙◌, subst, inl, inr, arith}
 use Rattle.std.proofs.lemmas.List.FromFn.{fill_by_all}
 use Rattle.std.proofs.lemmas.List.{get_or-set_same, get_or-set_other, get_or_past}
 use Rattle.std.proofs.lemmas.Bool.{cases_eq, cases_lt, cond-false, eq-eqb, ne_eqb, ltb-false, or_right, and_left, and_right}
@@ -18,7 +18,7 @@ use Rattle.walk.specs.RowLaws.{count_of}
 use Rattle.model.specs.Counted.{Lengths, above_by, labels}
 use Rattle.model.specs.declared.grant.Grant.{Grant}
 use Rattle.walked.specs.Starts.{lengths_in, given_by}
-use Rattle.walked.specs.Taking.{raised_rows, start_at, holds_at, Full, taken, OneMore}
+use Rattle.walked.specs.Taking.{raised_rows, start_at, holds_at, taken, OneMore}
 use Rattle.walked.specs.declared.starts.Starts.{Starts}
 
 row_small : (x : Rows) (m : Mark) (d : ℕ) → d < 15 → row_at x m d ≤ 1000000000000
@@ -77,12 +77,11 @@ pub or_false : (t : Bool) → (t || false) ≡ t
 or_false true = refl
 or_false false = refl
 
-module _ (t : List (List ℕ)) (g : Grant) (long : length (row_read t g.item) ≡ 8) (x : Starts) (full : Full x) where
+module _ (t : List (List ℕ)) (g : Grant) (long : length (row_read t g.item) ≡ 8) (x : Starts) where
   -- taken in
-  pub took : g.account < 64 → some (ltb 0) (row_read t g.item) ≡ true → OneMore (lengths_in t) g x (taken x g (row_read t g.item))
+  pub took : length x.rows ≡ 64 → length x.held ≡ 64 → g.account < 64 → some (ltb 0) (row_read t g.item) ≡ true → OneMore (lengths_in t) g x (taken x g (row_read t g.item))
   unfolding above_by
-  took known any = record {
-    full = record { rows = length-set x.rows acc new ∙ full.rows; held = length-set x.held acc true ∙ full.held };
+  took rows holds known any = record {
     signed = λ a l sign d h. signed a sign d h (cases_eq acc a);
     default = λ a d l. default a d (cases_eq acc a);
     held = λ a l. held a (cases_eq acc a);
@@ -104,7 +103,7 @@ module _ (t : List (List ℕ)) (g : Grant) (long : length (row_read t g.item) �
       y = taken x g chains
 
       at_new : start_at y acc ≡ new
-      at_new = get_or-set_same x.rows acc new no_rows (omega (arith, full.rows))
+      at_new = get_or-set_same x.rows acc new no_rows (omega arith)
 
       signed : (a : ℕ) (sign : Sign) (d : ℕ) → d < 15 → (acc ≡ a) ⊎ (acc ≡ a → ⊥) →
           row_at (start_at y a) (Signed sign) d ≡ limited (row_at (start_at x a) (Signed sign) d + given_by L g.right a sign d g)
@@ -132,7 +131,7 @@ module _ (t : List (List ℕ)) (g : Grant) (long : length (row_read t g.item) �
       held : (a : ℕ) → (acc ≡ a) ⊎ (acc ≡ a → ⊥) → holds_at y a ≡ (holds_at x a || labels L g.right a g)
       held a (inl e) =
           subst (λ b. holds_at y b ≡ (holds_at x b || labels L g.right b g)) e
-          (get_or-set_same x.held acc true false (omega (arith, full.held)) ∙ sym (or_right (holds_at x acc) (labels L g.right acc g) yes))
+          (get_or-set_same x.held acc true false (omega arith) ∙ sym (or_right (holds_at x acc) (labels L g.right acc g) yes))
       held a (inr ne) =
           get_or-set_other x.held acc a true false (λ q. ne (sym q))
           ∙ sym (ap (λ b. holds_at x a || (b && (eqb g.right g.right && above_by L g.item))) (ne_eqb acc a ne) ∙ or_false (holds_at x a))
@@ -141,7 +140,6 @@ module _ (t : List (List ℕ)) (g : Grant) (long : length (row_read t g.item) �
   pub passed_over : some (ltb 0) (row_read t g.item) ≡ false → OneMore (lengths_in t) g x x
   unfolding above_by
   passed_over none = record {
-    full = full;
     signed = λ a l sign d h.
         let zero = given_none (lengths_in t) g a g.right sign d (row_none (row_read t g.item) long none d) in
         let small = row_small (start_at x a) (Signed sign) d h in

@@ -1,5 +1,5 @@
 -- What the walk finds, in the counts of grants and accounts. Assumes nothing.
-use Rattle.std.specs.Prelude.{◌≡◌, ℕ, ◌<◌, List, Some, None, Option}
+use Rattle.std.specs.Prelude.{◌≡◌, ℕ, ◌<◌, List}
 use Rattle.chains.specs.Chains.{Members}
 use Rattle.strategies.specs.Rows.{row_at}
 use Rattle.strategies.specs.declared.marks.Sign.{Sign}
@@ -20,8 +20,3 @@ standing t grants = record { members = members_in t; grants = grants }
 pub record RowsBy (n : ℕ) (E : Members) (grants : List Grant) (L : Lengths) (s r : ℕ) (rows : Rows) : Type 0 where
   pub signed : (sign : Sign) (d : ℕ) → d < 15 → row_at rows (Signed sign) d ≡ limited (of_grants n E grants L s r sign d)
   pub default : (d : ℕ) → d < 15 → row_at rows Default d ≡ limited (of_accounts n E grants L s r d)
-
--- the first distance at which f has anything, or none if it has nothing at all
-abbrev pub FirstIfAny : (ℕ → ℕ) → Option ℕ → Type 0
-FirstIfAny f None = (d : ℕ) → f d ≡ 0
-FirstIfAny f (Some x) = (0 < f x) × ((d : ℕ) → d < x → f d ≡ 0)

@@ -1,11 +1,11 @@
 -- The default marks that accounts start with. Assumes nothing.
-use Rattle.std.specs.Prelude.{◌≡◌, ℕ, ◌<◌, ◌≤◌, Bool, cond, not, ◌&&◌, ◌==◌}
+use Rattle.std.specs.Prelude.{◌≡◌, ℕ, ◌<◌, ◌≤◌, Bool, cond, not, length, ◌&&◌, ◌==◌}
 use Rattle.chains.specs.Chains.{Members}
 use Rattle.chains.specs.Tests.{groupless}
 use Rattle.strategies.specs.declared.rows.Row.{Row}
 use Rattle.strategies.specs.declared.rows.Rows.{Rows}
 use Rattle.walk.specs.Counts.{row_of, three}
-use Rattle.walked.specs.Taking.{Full, start_at, holds_at}
+use Rattle.walked.specs.Taking.{start_at, holds_at}
 use Rattle.walked.specs.declared.starts.Starts.{Starts}
 
 -- one mark at distance 0
@@ -29,7 +29,7 @@ start_marked n E x a = cond (gives_default n E x a) (marked (start_at x a)) (sta
 
 -- the accounts below m have their default marks, the others are as they were
 pub record Marking (n : ℕ) (E : Members) (x : Starts) (m : ℕ) (y : Starts) : Type 0 where
-  pub full : Full y
+  pub rows : length y.rows ≡ 64
   pub held : y.held ≡ x.held
   pub before : (a : ℕ) → a < m → start_at y a ≡ start_marked n E x a
   pub after : (a : ℕ) → m ≤ a → start_at y a ≡ start_at x a

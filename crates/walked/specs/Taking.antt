@@ -1,5 +1,5 @@
 -- The starting marks as they are filled in, grant by grant. Assumes nothing.
-use Rattle.std.specs.Prelude.{◌≡◌, ℕ, ◌+◌, ◌<◌, Bool, true, false, ◌||◌, List, length, slice_index, slice_index_or, slice_set}
+use Rattle.std.specs.Prelude.{◌≡◌, ℕ, ◌+◌, ◌<◌, Bool, true, false, ◌||◌, List, slice_index, slice_index_or, slice_set}
 use Rattle.strategies.specs.Rows.{row_at}
 use Rattle.strategies.specs.declared.marks.Sign.{Sign}
 use Rattle.strategies.specs.declared.marks.Sign.TheVariants.{Plus, Minus}
@@ -29,11 +29,6 @@ start_at x a = slice_index_or x.rows a no_rows
 abbrev pub holds_at : Starts → ℕ → Bool
 holds_at x a = slice_index_or x.held a false
 
--- there is a place for each of 64 accounts
-pub record Full (x : Starts) : Type 0 where
-  pub rows : length x.rows ≡ 64
-  pub held : length x.held ≡ 64
-
 -- the start of the grant's account raised
 abbrev pub taken : Starts → Grant → List ℕ → Starts
 taken x g chains = record {
@@ -43,13 +38,11 @@ taken x g chains = record {
 
 -- no account has anything
 pub record NothingYet (x : Starts) : Type 0 where
-  pub full : Full x
   pub start : (a : ℕ) → a < 64 → start_at x a ≡ no_rows
   pub held : (a : ℕ) → a < 64 → holds_at x a ≡ false
 
 -- one grant more is taken in
 pub record OneMore (L : Lengths) (g : Grant) (x y : Starts) : Type 0 where
-  pub full : Full y
   pub signed : (a : ℕ) → a < 64 → (sign : Sign) (d : ℕ) → d < 15 →
       row_at (start_at y a) (Signed sign) d ≡ limited (row_at (start_at x a) (Signed sign) d + given_by L g.right a sign d g)
   pub default : (a d : ℕ) → a < 64 → row_at (start_at y a) Default d ≡ row_at (start_at x a) Default d
@@ -57,7 +50,6 @@ pub record OneMore (L : Lengths) (g : Grant) (x y : Starts) : Type 0 where
 
 -- these grants are taken in: each account has the arrivals that its grants give, up to a million million, and no default marks
 pub record FromGrants (grants : List Grant) (L : Lengths) (r : ℕ) (x : Starts) : Type 0 where
-  pub full : Full x
   pub signed : (a : ℕ) → a < 64 → (sign : Sign) (d : ℕ) → d < 15 → row_at (start_at x a) (Signed sign) d ≡ limited (started grants L r a sign d)
   pub default : (a d : ℕ) → a < 64 → d < 15 → row_at (start_at x a) Default d ≡ 0
   pub held : (a : ℕ) → a < 64 → holds_at x a ≡ labelled_by grants L r a

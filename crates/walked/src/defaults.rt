@@ -1,9 +1,8 @@
 //! Default marks.
 
 ghost use Rattle.std.specs.Prelude.{◌≡◌, ◌<◌};
-ghost use Rattle.table.specs.Tables.{SoundTable, members_in};
+ghost use Rattle.table.specs.Tables.{members_in};
 ghost use Rattle.walked.specs.Defaults.{Marked, gives_default, marked, one_mark};
-ghost use Rattle.walked.specs.Taking.{Full};
 
 use crate::starts::Starts;
 use strategies::rows::{Row, Rows};
@@ -13,9 +12,9 @@ use table::Table;
 fn one_mark() -> Row
     ensures { result ≡ one_mark }
 {
-    let mut counts = [0; 15];
-    counts[0] = 1;
-    Row { counts }
+    let mut row = Row::none();
+    row.add(0);
+    row
 }
 
 // The rows with one default mark.
@@ -23,31 +22,24 @@ fn mark(rows: &Rows) -> Rows
     ensures { result ≡ marked rows.now }
 {
     Rows {
-        plus: rows.plus,
-        minus: rows.minus,
         default: one_mark(),
+        ..*rows
     }
 }
 
 // Does the account give default marks: does it hold no grant that counts, and is it a member of none?
 fn is_unmarked(table: &Table, starts: &Starts, a: usize) -> bool
-    requires sound { SoundTable table.now }
-    requires account { a < table.now.accounts }
-    requires full { Full starts.now }
+    requires { a < table.now.accounts }
     ensures { result ≡ gives_default table.now.accounts (members_in table.now) starts.now a }
 {
-    if starts.held[a] {
-        return false;
-    }
-    table.groupless(a)
+    !starts.held[a] && table.groupless(a)
 }
 
 /// Gives a default mark, at distance 0, to each account that is a member of none and holds no grant that counts.
 pub fn mark_defaults(table: &Table, starts: &mut Starts)
-    requires sound { SoundTable table.now }
-    requires full { Full starts.old }
     ensures { Marked table.now.accounts (members_in table.now) starts.old starts.new }
 {
+    // A loop over numbers: a number is the account that the table is asked of.
     for a in 0..table.accounts() {
         if is_unmarked(table, starts, a) {
             let rows = starts.rows[a];

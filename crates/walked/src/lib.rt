@@ -1,5 +1,5 @@
 //! The walked question and the least distance: the marks that reach an account, found by going down the memberships from every
-//! account that has some. An inner layer, whose calls require a sound table and grants that fit.
+//! account that has some. An inner layer, whose calls require a known account.
 #![tactic(auto)]
 
 mod asking;

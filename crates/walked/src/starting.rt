@@ -1,10 +1,9 @@
 //! The marks that grants give to the accounts that hold them.
 
-ghost use Rattle.std.specs.Prelude.{◌≡◌, ◌<◌, length};
+ghost use Rattle.std.specs.Prelude.{◌≡◌, ◌<◌};
 ghost use Rattle.walked.specs.Starts.{InRange, lengths_in};
 ghost use Rattle.walked.specs.Taking.{
   FromGrants,
-  Full,
   NothingYet,
   OneMore,
   raised,
@@ -12,41 +11,40 @@ ghost use Rattle.walked.specs.Taking.{
   taken,
 };
 
-use crate::starts::{LENGTHS, Starts};
+use crate::starts::Starts;
+use chains::MOST_ACCOUNTS;
 use model::grant::Grant;
-use plans::{ItemCounts, any_chain};
+use plans::{ItemCounts, Lengths, any_chain};
+use std::array;
 use strategies::marks::Sign;
-use strategies::rows::{MOST, Row, Rows};
-use walk::walking::MOST_ACCOUNTS;
+use strategies::rows::{Row, Rows};
+use walk::row_weight::together;
 use walk::weight::Weight;
 
 // The row with the chains of each length added at their distance.
-fn raise(row: &Row, chains: &[u32; LENGTHS]) -> Row
-    requires { length chains.now ≡ 8 }
+fn raise(row: &Row, chains: &Lengths) -> Row
     ensures { result ≡ raised row.now chains.now }
 {
-    let mut counts = row.counts;
-    for j in 0..LENGTHS {
-        counts[j] = (counts[j] + chains[j] as u64).min(MOST);
+    Row {
+        counts: array::from_fn(|d| {
+            let chains = chains.get(d).copied().unwrap_or(0);
+            together(row.counts[d], chains as u64)
+        }),
     }
-    Row { counts }
 }
 
 // The rows with the chains added to the row of the sign.
-fn raise_sign(rows: &Rows, sign: Sign, chains: &[u32; LENGTHS]) -> Rows
-    requires { length chains.now ≡ 8 }
+fn raise_sign(rows: &Rows, sign: Sign, chains: &Lengths) -> Rows
     ensures { result ≡ raised_rows sign chains.now rows.now }
 {
     match sign {
         Sign::Plus => Rows {
             plus: raise(&rows.plus, chains),
-            minus: rows.minus,
-            default: rows.default,
+            ..*rows
         },
         Sign::Minus => Rows {
-            plus: rows.plus,
             minus: raise(&rows.minus, chains),
-            default: rows.default,
+            ..*rows
         },
     }
 }
@@ -62,10 +60,8 @@ fn no_starts() -> Starts
 }
 
 // Adds the chains from a grant's item to the start of its account, which then holds a grant that counts.
-fn take_in(starts: &mut Starts, grant: &Grant, chains: &[u32; LENGTHS])
-    requires full { Full starts.old }
-    requires account { grant.now.account < 64 }
-    requires chains { length chains.now ≡ 8 }
+fn take_in(starts: &mut Starts, grant: &Grant, chains: &Lengths)
+    requires { grant.now.account < 64 }
     ensures { starts.new ≡ taken starts.old grant.now chains.now }
 {
     let account = grant.account as usize;
@@ -76,8 +72,7 @@ fn take_in(starts: &mut Starts, grant: &Grant, chains: &[u32; LENGTHS])
 
 // Takes a grant in if a chain leads down from its item.
 fn add_grant(starts: &mut Starts, above: &ItemCounts, grant: &Grant)
-    requires full { Full starts.old }
-    requires account { grant.now.account < 64 }
+    requires { grant.now.account < 64 }
     ensures { OneMore (lengths_in above.now.counts) grant.now starts.old starts.new }
 {
     let chains = above.row(grant.item);

@@ -1,12 +1,10 @@
 //! What each account has before the walk.
 
+use chains::MOST_ACCOUNTS;
 use strategies::rows::Rows;
-use walk::walking::MOST_ACCOUNTS;
-
-/// How many lengths an item chain can have, 0 to 7.
-pub const LENGTHS: usize = 8;
 
 /// The marks that each account starts with, and whether it holds a grant that counts.
+// Two arrays and not one of pairs: the walk takes the rows alone.
 #[derive(Clone, Copy)]
 pub struct Starts {
     pub rows: [Rows; MOST_ACCOUNTS],

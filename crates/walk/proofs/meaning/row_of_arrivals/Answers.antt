@@ -7,8 +7,8 @@ use Rattle.walk.proofs.meaning.row_of_arrivals.Goals as goal
 
 pub returns : goal.returns
 returns c =
-    let n = c.args.accounts in
-    let E = shown_members n c.args.counts.now in
+    let n = c.args.counts.accounts in
+    let E = shown_members n c.args.counts.numbers.now in
     let s = c.args.s in
     let start : ℕ → Row = λ a. get_or c.args.start.now a no_counts in
     counted n E (λ a. count_at (start a)) s (count_at c.walk.result)

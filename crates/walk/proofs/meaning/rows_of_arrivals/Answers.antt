@@ -8,8 +8,8 @@ use Rattle.walk.proofs.meaning.rows_of_arrivals.Goals as goal
 
 pub returns : goal.returns
 returns c m =
-    let n = c.args.accounts in
-    let E = shown_members n c.args.counts.now in
+    let n = c.args.counts.accounts in
+    let E = shown_members n c.args.counts.numbers.now in
     let s = c.args.s in
     let start : ℕ → Rows = λ a. get_or c.args.start.now a no_rows in
     counted n E (λ a. row_at (start a) m) s (row_at c.walk.result m)

@@ -1,4 +1,4 @@
-use Rattle.std.proofs.Common.{◌≡◌, ℕ, ◌<◌, map, length, get_or}
+use Rattle.std.proofs.Common.{◌≡◌, ℕ, ◌<◌, map, get_or}
 use Rattle.lists.specs.Lists.{keep, below}
 use Rattle.chains.specs.Table.{shown_members}
 use Rattle.walk.specs.Weights.{total}
@@ -8,5 +8,4 @@ use Rattle.walk.proofs.walking.level_below.Given as goal
 abbrev pub invariant-loop-g : goal.invariant-loop-g
 invariant-loop-g g l =
     let w = g.W.Weight in
-    (length l.below ≡ 64)
-    × ((x : ℕ) → x < l.accounts → get_or l.below x w.nothing ≡ total w.nothing w.plus (map (λ y. w.stepped (get_or l.level y w.nothing)) (keep (λ y. shown_members l.accounts l.counts y x) (below l.g))))
+    (x : ℕ) → x < l.counts.accounts → get_or l.below x w.nothing ≡ total w.nothing w.plus (map (λ y. w.stepped (get_or l.level y w.nothing)) (keep (λ y. shown_members l.counts.accounts l.counts.numbers.now y x) (below l.g)))

@@ -1,4 +1,4 @@
-use Rattle.std.proofs.Common.{◌≡◌, ℕ, suc, ◌<◌, map, length, get_or}
+use Rattle.std.proofs.Common.{◌≡◌, ℕ, suc, ◌<◌, map, get_or}
 use Rattle.lists.specs.Lists.{below}
 use Rattle.chains.specs.Table.{shown_members}
 use Rattle.walk.specs.Weights.{total, times}
@@ -9,6 +9,6 @@ use Rattle.walk.proofs.walking.walk.Given as goal
 abbrev pub invariant-loop-k : goal.invariant-loop-k
 invariant-loop-k g l =
     let w = g.W.Weight in
-    let on : ℕ → ℕ → g.row.W.Denot = λ k. times (down w.nothing w.plus w.stepped l.accounts (shown_members l.accounts l.counts)) k (λ y. get_or l.start y w.nothing) in
-    (length l.level ≡ 64) × ((x : ℕ) → x < l.accounts → get_or l.level x w.nothing ≡ on l._k x)
+    let on : ℕ → ℕ → g.row.W.Denot = λ k. times (down w.nothing w.plus w.stepped l.counts.accounts (shown_members l.counts.accounts l.counts.numbers.now)) k (λ y. get_or l.start y w.nothing) in
+    ((x : ℕ) → x < l.counts.accounts → get_or l.level x w.nothing ≡ on l._k x)
     × (l.sum ≡ total w.nothing w.plus (map (λ k. on k l.s) (below (suc l._k))))

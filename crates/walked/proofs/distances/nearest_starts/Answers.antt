@@ -1,6 +1,4 @@
-use Rattle.std.proofs.Common.{◌+◌, ◌<◌, get_or, take, sym, refl, subst, arith}
-use Rattle.std.proofs.ByRecursion.{All-get_or}
-use Rattle.std.proofs.lemmas.List.{take_all}
+use Rattle.std.proofs.Common.{◌+◌, get_or, take, sym, refl, subst}
 use Rattle.model.specs.declared.grant.Grant.{Grant}
 use Rattle.strategies.specs.declared.marks.Sign.TheVariants.{Plus}
 use Rattle.walked.specs.Starts.{lengths_in}
@@ -11,13 +9,7 @@ use Rattle.walked.proofs.distances.nearest_starts.Goals.{then-is_asked, else-is_
 
 pub loop-grant-init : goal.loop-grant-init
 loop-grant-init c =
-    lowest_none c.args.grants.now (lengths_in c.args.above.now.counts) c.args.right c.args.sign c.no_distances-starts.result c.no_distances-starts.ensures
-
-pub lower-requires : goal.lower-requires
-lower-requires c = record {
-  full = c.loop-grant.invariant.full;
-  account = All-get_or (λ g. g.account < 64) c.args.grants.now c.loop-grant.grant-index (record { account = 0; item = 0; right = 0; sign = Plus }) (omega arith) c.requires;
-}
+    lowest_none c.args.grants.now (lengths_in c.args.above.now.counts) c.args.right c.args.sign
 
 pub loop-grant-preserved : goal.loop-grant-preserved
 loop-grant-preserved c =
@@ -35,8 +27,3 @@ loop-grant-preserved c =
           (lowest_skip grants L c.args.right i c.args.sign (get_or grants i none) none c.loop-grant-test.true refl c.loop-grant.starts
           (sym w.if-is_asked.ensures) c.loop-grant.invariant)
     ]
-
-pub returns : goal.returns
-returns c =
-    subst (λ gs. NearestStarts gs (lengths_in c.args.above.now.counts) c.args.right c.args.sign c.loop-grant.starts)
-    (take_all c.loop-grant.grant-index c.args.grants.now (omega arith)) c.loop-grant.invariant

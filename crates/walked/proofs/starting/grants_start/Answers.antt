@@ -1,6 +1,4 @@
-use Rattle.std.proofs.Common.{◌+◌, ◌<◌, get_or, take, sym, refl, subst, arith}
-use Rattle.std.proofs.ByRecursion.{All-get_or}
-use Rattle.std.proofs.lemmas.List.{take_all}
+use Rattle.std.proofs.Common.{◌+◌, get_or, take, sym, refl, subst}
 use Rattle.model.specs.declared.grant.Grant.{Grant}
 use Rattle.strategies.specs.declared.marks.Sign.TheVariants.{Plus}
 use Rattle.walked.specs.Starts.{lengths_in}
@@ -11,12 +9,6 @@ use Rattle.walked.proofs.starting.grants_start.Goals.{then-grant-right, else-gra
 
 pub loop-grant-init : goal.loop-grant-init
 loop-grant-init c = from_none c.args.grants.now (lengths_in c.args.above.now.counts) c.args.right c.no_starts-starts.result c.no_starts-starts.ensures
-
-pub add_grant-requires : goal.add_grant-requires
-add_grant-requires c = record {
-  full = c.loop-grant.invariant.full;
-  account = All-get_or (λ g. g.account < 64) c.args.grants.now c.loop-grant.grant-index (record { account = 0; item = 0; right = 0; sign = Plus }) (omega arith) c.requires;
-}
 
 pub loop-grant-preserved : goal.loop-grant-preserved
 loop-grant-preserved c =
@@ -33,9 +25,3 @@ loop-grant-preserved c =
           subst (FromGrants (take (i + 1) grants) L c.args.right) (sym w.starts-is)
           (from_skip grants L c.args.right i (get_or grants i none) none c.loop-grant-test.true refl c.loop-grant.starts w.if-grant-right.false c.loop-grant.invariant)
     ]
-
-pub returns : goal.returns
-returns c =
-    let grants = c.args.grants.now in
-    subst (λ gs. FromGrants gs (lengths_in c.args.above.now.counts) c.args.right c.loop-grant.starts)
-    (take_all c.loop-grant.grant-index grants (omega arith)) c.loop-grant.invariant

@@ -1,6 +1,0 @@
-use Rattle.std.proofs.Common.{◌≡◌, ℕ, ◌<◌, length, get_or}
-use Rattle.walk.specs.Counts.{before}
-use Rattle.walk.proofs.row_weight.RowWeight.step.Given as goal
-
-abbrev pub invariant-loop-d : goal.invariant-loop-d
-invariant-loop-d l = (length l.counts ≡ 15) × ((e : ℕ) → e < l.d → get_or l.counts e 0 ≡ before l.self e)
