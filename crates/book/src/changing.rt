@@ -10,6 +10,7 @@ ghost use Rattle.std.specs.Prelude.{◌≡◌, ◌++◌, drop};
 
 use crate::books::Book;
 use joins::{join_in, leave_in};
+use model::access::Access;
 use model::grant::Grant;
 use model::refusal::Refusal;
 
@@ -18,6 +19,7 @@ impl Book<'_> {
     ///
     /// Refused with 1 if an account is unknown, 2 if a chain leads from the member down to the group, 3 if the membership
     /// stands, 4 if a chain would be longer than 7, 5 if a count would pass 99,999; the first of these in this order.
+    #[tactic(auto, unfolding(model::specs::Model::join_outcome), using(crate::proofs::Changed::shown_joined))]
     pub fn join(&mut self, group: u32, member: u32) -> Result<(), Refusal>
         ensures answer { result ≡ join_outcome (accounts_of self.old) (shown self.old) group member }
         ensures after { shown self.new ≡ joined (accounts_of self.old) (shown self.old) group member }
@@ -33,6 +35,7 @@ impl Book<'_> {
     /// Ends the membership of `member` in `group`.
     ///
     /// Refused with 1 if an account is unknown, 6 if the membership does not stand.
+    #[tactic(auto, unfolding(model::specs::Model::leave_outcome), using(crate::proofs::Changed::shown_left))]
     pub fn leave(&mut self, group: u32, member: u32) -> Result<(), Refusal>
         ensures answer { result ≡ leave_outcome (accounts_of self.old) (shown self.old) group member }
         ensures after { shown self.new ≡ left (accounts_of self.old) (shown self.old) group member }
@@ -48,14 +51,14 @@ impl Book<'_> {
     ///
     /// Refused with 1 if the account is unknown, 7 if the right is above 7, 8 if the item is above 255, 9 if a grant stands for
     /// the account, the item and the right, 10 if as many grants stand as may; the first of these in this order.
+    #[tactic(auto, unfolding(model::specs::Model::give_outcome), using(crate::proofs::Changed::shown_given))]
     pub fn grant(&mut self, grant: Grant) -> Result<(), Refusal>
         ensures answer { result ≡ give_outcome (accounts_of self.old) (capacity_in self.old) (shown self.old) grant.account grant.item grant.right }
         ensures after { shown self.new ≡ given (accounts_of self.old) (capacity_in self.old) (shown self.old) grant }
         ensures memory { records_in self.new ≡ where_accepted result (written self.old.grants grant) (records_in self.old) }
         ensures same { (self.new.table ≡ self.old.table) × (capacity_in self.new ≡ capacity_in self.old) }
     {
-        let accounts = self.table.accounts();
-        self.grants.give(accounts, grant)
+        self.grants.give(grant)
     }
 
     /// Takes back the grant for the account, the item and the right. Those behind it move up by one record; the vacated last
@@ -63,13 +66,13 @@ impl Book<'_> {
     ///
     /// Refused with 1 if the account is unknown, 7 if the right is above 7, 8 if the item is above 255, 11 if no such grant
     /// stands; the first of these in this order.
-    pub fn withdraw(&mut self, account: u32, item: u32, right: u32) -> Result<(), Refusal>
-        ensures answer { result ≡ withdraw_outcome (accounts_of self.old) (shown self.old) account item right }
-        ensures after { shown self.new ≡ withdrawn (accounts_of self.old) (shown self.old) account item right }
-        ensures memory { records_in self.new ≡ where_accepted result (closed self.old.grants account item right) (records_in self.old) }
+    #[tactic(auto, unfolding(model::specs::Model::withdraw_outcome), using(crate::proofs::Changed::shown_withdrawn))]
+    pub fn withdraw(&mut self, access: Access) -> Result<(), Refusal>
+        ensures answer { result ≡ withdraw_outcome (accounts_of self.old) (shown self.old) access.account access.item access.right }
+        ensures after { shown self.new ≡ withdrawn (accounts_of self.old) (shown self.old) access.account access.item access.right }
+        ensures memory { records_in self.new ≡ where_accepted result (closed self.old.grants access.account access.item access.right) (records_in self.old) }
         ensures same { (self.new.table ≡ self.old.table) × (capacity_in self.new ≡ capacity_in self.old) }
     {
-        let accounts = self.table.accounts();
-        self.grants.withdraw(accounts, account, item, right)
+        self.grants.withdraw(access)
     }
 }

@@ -22,7 +22,7 @@ impl<'a> Book<'a> {
         ensures records { records_in result ≡ records.old }
     {
         let table = Table::make(counts);
-        let grants = Grants::none(records);
+        let grants = Grants::none(records, table.accounts());
         Book { table, grants }
     }
 

@@ -1,8 +1,8 @@
 -- No row of a listing is far, and there are not too many. Assumes nothing.
-use Rattle.std.proofs.Common.{◌≡◌, ℕ, zero, suc, ◌+◌, ◌<◌, ◌≤◌, Bool, true, false, cond, ◌&&◌, ◌||◌, eqb, ltb, List, [], ◌∷◌, map, length, refl, ◌∙◌, true≢false, arith, length-append}
+use Rattle.std.proofs.Common.{◌≡◌, ℕ, zero, suc, ◌+◌, ◌<◌, ◌≤◌, Bool, true, false, cond, ◌&&◌, eqb, List, [], ◌∷◌, map, length, refl, ◌∙◌, arith, length-append}
 use Rattle.std.specs.List.{AllByRecursion}
 use Rattle.std.proofs.ByRecursion.{All-append, All-weaker, sum_by_le}
-use Rattle.std.proofs.lemmas.Bool.{and_right, ltb-false, ltb-true, ne_eqb, not-false, or_parts}
+use Rattle.std.proofs.lemmas.Bool.{or_parts}
 use Rattle.lists.specs.Lists.{below, join_all, keep, some, sum_below}
 use Rattle.lists.proofs.Sums.{sum_bound}
 use Rattle.lists.proofs.Kept.{length_joined, sum_by_below, sum_by_kept}
@@ -12,7 +12,7 @@ use Rattle.strategies.specs.Rows.{counted, same_mark}
 use Rattle.strategies.specs.declared.marks.Mark.{Mark}
 use Rattle.strategies.specs.declared.marks.Mark.TheVariants.{Signed, Default}
 use Rattle.strategies.specs.declared.marks.Arrival.{Arrival}
-use Rattle.model.specs.Grants.{misfit, unknown}
+use Rattle.model.specs.Grants.{misfit}
 use Rattle.model.specs.Model.{Model}
 use Rattle.model.specs.Question.{over_chains, grant_arrivals, unmarked, default_marks, listing}
 use Rattle.model.specs.ListingLaws.{FewRows}
@@ -77,11 +77,7 @@ listed_near n M I s o r =
 
 pub kept_le : {A : Type 0} (f : A → Bool) (xs : List A) → length (keep f xs) ≤ length xs
 kept_le f [] = omega arith
-kept_le f (x ∷ xs) = step (f x) (kept_le f xs)
-  where
-    step : (t : Bool) → length (keep f xs) ≤ length xs → length (cond t (x ∷ keep f xs) (keep f xs)) ≤ suc (length xs)
-    step true before = omega arith
-    step false before = omega arith
+kept_le f (x ∷ xs) = let before = kept_le f xs in grind arith
 
 pub counted_le : (m : Mark) (rows : List Arrival) (d : ℕ) → counted m rows d ≤ length rows
 unfolding counted
@@ -94,13 +90,7 @@ counted_far n M I s o r m d far = none (listing n M I s o r) (listed_near n M I 
   where
     none : (rows : List Arrival) → AllByRecursion Near rows → length (keep (λ x. same_mark m x.mark && eqb x.distance d) rows) ≡ 0
     none [] near = refl
-    none (x ∷ xs) near =
-        cond_false_length (same_mark m x.mark && eqb x.distance d) (and_right (same_mark m x.mark) (eqb x.distance d) (ne_eqb x.distance d (λ e. let l = near.0 in omega arith))) (none xs near.1)
-      where
-        cond_false_length : (t : Bool) → t ≡ false → length (keep (λ y. same_mark m y.mark && eqb y.distance d) xs) ≡ 0 →
-            length (cond t (x ∷ keep (λ y. same_mark m y.mark && eqb y.distance d) xs) (keep (λ y. same_mark m y.mark && eqb y.distance d) xs)) ≡ 0
-        cond_false_length true e rest = absurd (true≢false e)
-        cond_false_length false e rest = rest
+    none (x ∷ xs) near = let rest = none xs near.1 in let here = near.0 in grind arith
 
 -- the rows of a listing are few enough for any of their sums
 pub listed_few_in : (n : ℕ) (M : Model) (I : Items) → Lawful I → (s o r : ℕ) → s < n → n ≤ 64 → length M.grants ≤ 512 →
@@ -128,19 +118,11 @@ listed_few_in n M I lawful s o r known small room held few =
 -- grants that fit are to known accounts and on items up to 255
 pub fit_accounts : (n : ℕ) (gs : List Grant) → some (misfit n) gs ≡ false → AllByRecursion (λ g. g.account < n) gs
 fit_accounts n [] e = tt
-fit_accounts n (g ∷ gs) e =
-    let both = or_parts (misfit n g) (some (misfit n) gs) e in
-    let here = or_parts (unknown n g.account) (ltb 7 g.right || ltb 255 g.item) both.0 in
-    (ltb-true g.account n (not-false (ltb g.account n) here.0), fit_accounts n gs both.1)
+fit_accounts n (g ∷ gs) e = let both = or_parts (misfit n g) (some (misfit n) gs) e in (grind arith, fit_accounts n gs both.1)
 
 pub fit_items : (n : ℕ) (gs : List Grant) → some (misfit n) gs ≡ false → AllByRecursion (λ g. g.item < 256) gs
 fit_items n [] e = tt
-fit_items n (g ∷ gs) e =
-    let both = or_parts (misfit n g) (some (misfit n) gs) e in
-    let here = or_parts (unknown n g.account) (ltb 7 g.right || ltb 255 g.item) both.0 in
-    let there = or_parts (ltb 7 g.right) (ltb 255 g.item) here.1 in
-    let low : g.item ≤ 255 = ltb-false 255 g.item there.1 in
-    (omega arith, fit_items n gs both.1)
+fit_items n (g ∷ gs) e = let both = or_parts (misfit n g) (some (misfit n) gs) e in (grind arith, fit_items n gs both.1)
 
 -- whatever calls can leave
 pub listed_few : FewRows

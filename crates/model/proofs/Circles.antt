@@ -1,5 +1,5 @@
 -- A join is refused as a circle exactly where there would be one. Assumes nothing.
-use Rattle.std.proofs.Common.{◌≡◌, ℕ, ◌<◌, Bool, true, false, ◌||◌, ltb, [], ◌∷◌, Err, sym, refl, ◌∙◌, true≢false, arith}
+use Rattle.std.proofs.Common.{◌≡◌, ℕ, ◌<◌, Bool, true, false, ◌||◌, ltb, [], ◌∷◌, Err, sym, refl, ◌∙◌, arith}
 use Rattle.std.proofs.lemmas.Bool.{lt-ltb, ltb-true, not-false, not_from_true, or_from, or_parts}
 use Rattle.chains.specs.Chains.{Members, Chain, Short, Within, add}
 use Rattle.chains.specs.Tests.{leads, too_long, too_many}
@@ -16,18 +16,11 @@ use Rattle.model.proofs.Lasting.{runs_standing}
 -- of five checks in this order, the second is the first to fail
 second_fails : (u l x y z : Bool) →
     checks ((u, UnknownAccount) ∷ (l, Circle) ∷ (x, MemberStands) ∷ (y, ChainTooLong) ∷ (z, CountTooLarge) ∷ []) ≡ Err Circle → (u ≡ false) × (l ≡ true)
-second_fails true l x y z e = let wrong : ◌≡◌ {A = ℕ} 0 1 = cc in absurd (omega arith)
-second_fails false true x y z e = (refl, refl)
-second_fails false false true y z e = let wrong : ◌≡◌ {A = ℕ} 0 1 = cc in absurd (omega arith)
-second_fails false false false true z e = let wrong : ◌≡◌ {A = ℕ} 0 1 = cc in absurd (omega arith)
-second_fails false false false false true e = let wrong : ◌≡◌ {A = ℕ} 0 1 = cc in absurd (omega arith)
-second_fails false false false false false e = let wrong : ◌≡◌ {A = ℕ} 0 1 = cc in absurd (omega arith)
+second_fails u l x y z e = grind arith
 
 second_found : (u l x y z : Bool) → u ≡ false → l ≡ true →
     checks ((u, UnknownAccount) ∷ (l, Circle) ∷ (x, MemberStands) ∷ (y, ChainTooLong) ∷ (z, CountTooLarge) ∷ []) ≡ Err Circle
-second_found true l x y z e f = absurd (true≢false e)
-second_found false true x y z e f = refl
-second_found false false x y z e f = absurd (true≢false (sym f))
+second_found u l x y z e f = grind arith
 
 module _ (n : ℕ) (E : Members) (w : Within n E) (short : Short E) (p c : ℕ) (r : Outcome) (e : r ≡ checks (join_checks n E p c)) where
   there : r ≡ Err Circle → (p < n) × (c < n) × ((k : ℕ) × Chain E c k p)

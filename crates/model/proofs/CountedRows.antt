@@ -1,5 +1,5 @@
 -- Counting the rows of chains and of one grant. Assumes nothing.
-use Rattle.std.proofs.Common.{◌≡◌, ℕ, ◌+◌, ◌*◌, Bool, true, false, cond, ◌&&◌, eqb, List, [], ◌++◌, map, length, sum_by, sym, refl, ap, ◌∙◌, mul_comm, zero-mul}
+use Rattle.std.proofs.Common.{◌≡◌, ℕ, ◌+◌, ◌*◌, Bool, true, false, cond, ◌&&◌, eqb, List, [], ◌++◌, map, length, sum_by, sym, refl, ap, ◌∙◌, mul_comm, zero-mul, arith}
 use Rattle.lists.specs.Lists.{below, join_all, sum_below}
 use Rattle.lists.proofs.Sums.{sum_same, sum_zero, sum_times}
 use Rattle.lists.proofs.Kept.{kept_append, kept_joined, kept_same, sum_by_same, sum_by_same_all, sum_by_below}
@@ -60,8 +60,7 @@ module _ (m : Mark) (d : ℕ) where
 
 -- a factor under a test
 cond_times : (t : Bool) (x y : ℕ) → cond t x 0 * y ≡ cond t (x * y) 0
-cond_times true x y = refl
-cond_times false x y = zero-mul y
+cond_times t x y = grind arith
 
 pairs_products : (f g : ℕ → ℕ) (d : ℕ) → sum_below 8 (λ j. sum_below 8 (λ i. cond (eqb (i + j) d) (f i) 0) * g j) ≡ products f g d
 unfolding products

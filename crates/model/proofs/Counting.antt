@@ -1,5 +1,5 @@
 -- Counting a listing: the rows of each mark at each distance as sums. Assumes nothing.
-use Rattle.std.proofs.Common.{◌≡◌, ℕ, suc, ◌+◌, ◌<◌, ◌≤◌, Bool, cond, not, ◌&&◌, ◌||◌, eqb, ltb, ◌⊎◌, List, [], ◌∷◌, length, sym, refl, ap, ◌∙◌, ap₂, inl, inr, arith}
+use Rattle.std.proofs.Common.{◌≡◌, ℕ, ◌+◌, ◌<◌, ◌≤◌, Bool, cond, not, ◌&&◌, eqb, ltb, ◌⊎◌, List, [], ◌∷◌, length, sym, refl, ap, ◌∙◌, inl, inr, arith}
 use Rattle.std.proofs.lemmas.Bool.{cases_lt, lt-ltb, le-ltb, cond-true, cond-false, eq-eqb, ne_eqb}
 use Rattle.lists.specs.Lists.{any_at_all, below, join_all, keep, some, sum_below}
 use Rattle.lists.proofs.Sums.{sum_same, sum_zero, sum_one}
@@ -33,11 +33,11 @@ one_of_eight f d = split (cases_lt d 8)
 
 some_same : {A : Type 0} (f g : A → Bool) → ((x : A) → f x ≡ g x) → (xs : List A) → some f xs ≡ some g xs
 some_same f g h [] = refl
-some_same f g h (x ∷ xs) = ap₂ (λ y z. y || z) (h x) (some_same f g h xs)
+some_same f g h (x ∷ xs) = let here = h x in let rest = some_same f g h xs in grind arith
 
 any_counted : {A : Type 0} (xs : List A) → any_at_all xs ≡ ltb 0 (length xs)
 any_counted [] = refl
-any_counted (x ∷ xs) = sym (lt-ltb 0 (suc (length xs)) (omega arith))
+any_counted (x ∷ xs) = grind arith
 
 pub above_listed : (I : Items) (b o : ℕ) → at_or_above I b o ≡ above_by (listed_lengths I o) b
 unfolding at_or_above above_by

@@ -12,7 +12,6 @@ use Rattle.strategies.specs.declared.marks.Arrival.{Arrival}
 use Rattle.strategies.specs.declared.rows.Row.{Row}
 use Rattle.strategies.specs.declared.rows.Rows.{Rows}
 use Rattle.strategies.specs.declared.strategy.DefaultRule.{DefaultRule}
-use Rattle.strategies.specs.declared.strategy.DefaultRule.TheVariants.{Dropped, Counts}
 use Rattle.strategies.specs.declared.strategy.Strategy.{Strategy}
 use Rattle.model.specs.Question.{answer_of}
 use Rattle.model.specs.declared.answer.Answer.{Answer}
@@ -23,9 +22,7 @@ row_is : (row : Row) (f : ℕ → ℕ) → ((d : ℕ) → f d ≡ get_or row.cou
 row_is row f h = fill_by_all f row.counts 15 0 row.long (λ d l. sym (h d))
 
 vote_few : (rule : DefaultRule) (m : Mark) (d : ℕ) → length (vote_of rule m d) ≤ 1
-vote_few rule (Signed s) d = omega arith
-vote_few Dropped Default d = omega arith
-vote_few (Counts s) Default d = omega arith
+vote_few rule m d = grind arith
 
 votes_few : (rule : DefaultRule) (l : List Arrival) → length (votes rule l) ≤ length l
 unfolding votes

@@ -1,8 +1,7 @@
 -- What every call keeps of the model. Assumes nothing.
-use Rattle.std.proofs.Common.{◌≡◌, ℕ, ◌<◌, ◌≤◌, Bool, true, false, cond, not, ◌||◌, ltb, List, [], ◌∷◌, ◌++◌, length, Err, refl, ◌∙◌, arith}
+use Rattle.std.proofs.Common.{◌≡◌, ℕ, ◌<◌, Bool, true, false, cond, not, ltb, List, [], ◌∷◌, ◌++◌, length, Err, refl, arith}
 use Rattle.std.proofs.lemmas.List.{length-append}
-use Rattle.std.proofs.lemmas.Bool.{ltb-true, not-false, or_from, or_parts}
-use Rattle.lists.specs.Lists.{keep, some}
+use Rattle.std.proofs.lemmas.Bool.{ltb-true, not-false, or_parts}
 use Rattle.chains.specs.Chains.{add, strike}
 use Rattle.chains.proofs.Held.{empty_sound, joined_sound, left_sound}
 use Rattle.chains.proofs.Sets.{add_within}
@@ -16,6 +15,7 @@ use Rattle.model.specs.Grants.{is_for, misfit, others, repeated, unknown}
 use Rattle.model.specs.Model.{Model, give_checks, give_outcome, given, join_checks, join_outcome, joined, just_made, leave_checks, leave_outcome, left, withdraw_checks, withdraw_outcome, withdrawn}
 use Rattle.model.specs.RunLaws.{Standing}
 use Rattle.model.specs.Runs.{run, next}
+use Rattle.model.proofs.Bounds.{kept_le}
 use Rattle.model.proofs.Standing.{keep_none, repeated_keep, repeated_push}
 use Rattle.chains.proofs.Some.{some_join}
 use Rattle.chains.proofs.Told.{leads_none, long_none, many_none}
@@ -84,21 +84,10 @@ module _ (n capacity : ℕ) where
       let long = length-append M.grants (g ∷ []) in
       record {
         sound = h.sound;
-        fitting =
-            some_join (misfit n) M.grants (g ∷ [])
-            ∙ or_from (some (misfit n) M.grants) (misfit n g || false) h.fitting
-            (or_from (misfit n g) false (or_from (unknown n g.account) (ltb 7 g.right || ltb 255 g.item) passed.0 (or_from (ltb 7 g.right) (ltb 255 g.item) passed.1.0 passed.1.1.0)) refl);
+        fitting = let joined = some_join (misfit n) M.grants (g ∷ []) in let before = h.fitting in grind arith;
         once = repeated_push M.grants g h.once new;
         room = omega arith;
       })
-
-  shorter : (test : Grant → Bool) (gs : List Grant) → length (keep test gs) ≤ length gs
-  shorter test [] = omega arith
-  shorter test (g ∷ gs) = pick (test g) (shorter test gs)
-    where
-      pick : (b : Bool) → length (keep test gs) ≤ length gs → length (cond b (g ∷ keep test gs) (keep test gs)) ≤ length (g ∷ gs)
-      pick true l = omega arith
-      pick false l = omega arith
 
   withdraw_keeps : (M : Model) (a i r : ℕ) → Standing n capacity M → Standing n capacity (withdrawn n M a i r)
   unfolding withdrawn withdraw_outcome
@@ -106,7 +95,7 @@ module _ (n capacity : ℕ) where
       accepted (Standing n capacity) (record { members = M.members; grants = others a i r M.grants }) M (withdraw_checks n M.grants a i r) h
       (λ passed.
       let test = λ (g : Grant). not (is_for a i r g) in
-      let less = shorter test M.grants in
+      let less = kept_le test M.grants in
       let most = h.room in
       record {
         sound = h.sound;
@@ -119,10 +108,10 @@ module _ (n capacity : ℕ) where
   next_keeps M (Join p c) h = join_keeps M p c h
   next_keeps M (Leave p c) h = leave_keeps M p c h
   next_keeps M (Give g) h = give_keeps M g h
-  next_keeps M (Withdraw a i r) h = withdraw_keeps M a i r h
-  next_keeps M (Quick s o r t) h = h
-  next_keeps M (Walked s o r t) h = h
-  next_keeps M (Least s o r t) h = h
+  next_keeps M (Withdraw x) h = withdraw_keeps M x.account x.item x.right h
+  next_keeps M (Quick x t) h = h
+  next_keeps M (Walked x t) h = h
+  next_keeps M (Least x t) h = h
 
   run_keeps : (M : Model) (calls : List Call) → Standing n capacity M → Standing n capacity (run n capacity M calls)
   unfolding run

@@ -13,20 +13,20 @@ abbrev pub next : ℕ → ℕ → Model → Call → Model
 next n capacity M (Join p c) = joined n M p c
 next n capacity M (Leave p c) = left n M p c
 next n capacity M (Give g) = given n capacity M g
-next n capacity M (Withdraw a i r) = withdrawn n M a i r
-next n capacity M (Quick s o r t) = M
-next n capacity M (Walked s o r t) = M
-next n capacity M (Least s o r t) = M
+next n capacity M (Withdraw x) = withdrawn n M x.account x.item x.right
+next n capacity M (Quick x t) = M
+next n capacity M (Walked x t) = M
+next n capacity M (Least x t) = M
 
 -- what a call gives, over the plan it is put on: both questions the same
 abbrev pub reply : ℕ → ℕ → Items → Model → Call → Reply
 reply n capacity I M (Join p c) = Done (join_outcome n M p c)
 reply n capacity I M (Leave p c) = Done (leave_outcome n M p c)
 reply n capacity I M (Give g) = Done (give_outcome n capacity M g.account g.item g.right)
-reply n capacity I M (Withdraw a i r) = Done (withdraw_outcome n M a i r)
-reply n capacity I M (Quick s o r t) = Answered (asked n M I s o r t)
-reply n capacity I M (Walked s o r t) = Answered (asked n M I s o r t)
-reply n capacity I M (Least s o r t) = Distance (least_asked n M I s o r t)
+reply n capacity I M (Withdraw x) = Done (withdraw_outcome n M x.account x.item x.right)
+reply n capacity I M (Quick x t) = Answered (asked n M I x.account x.item x.right t)
+reply n capacity I M (Walked x t) = Answered (asked n M I x.account x.item x.right t)
+reply n capacity I M (Least x t) = Distance (least_asked n M I x.account x.item x.right t)
 
 -- the model after the calls, and their replies, the first call first
 unfoldable pub run : ℕ → ℕ → Model → List Call → Model

@@ -1,5 +1,6 @@
 //! Calls on a book, and what they give.
 
+use crate::access::Access;
 use crate::answer::Answer;
 use crate::grant::Grant;
 use crate::refusal::Refusal;
@@ -7,53 +8,26 @@ use strategies::marks::Sign;
 use strategies::strategy::Strategy;
 
 /// One call on the book.
-#[derive(Clone, Copy)]
+#[derive(Clone, Copy, PartialEq, Eq, Debug)]
 pub enum Call {
     /// Make `member` a member of `group`.
-    Join {
-        group: u32,
-        member: u32,
-    },
+    Join { group: u32, member: u32 },
     /// End the membership of `member` in `group`.
-    Leave {
-        group: u32,
-        member: u32,
-    },
+    Leave { group: u32, member: u32 },
     /// Put a grant behind the others.
-    Give {
-        grant: Grant,
-    },
+    Give { grant: Grant },
     /// Take back the grant for the account, the item and the right.
-    Withdraw {
-        account: u32,
-        item: u32,
-        right: u32,
-    },
+    Withdraw { access: Access },
     /// May the account use the right on the item? Read off the chain counts.
-    Quick {
-        account: u32,
-        item: u32,
-        right: u32,
-        strategy: Strategy,
-    },
+    Quick { access: Access, strategy: Strategy },
     /// The same question, by walking down the memberships.
-    Walked {
-        account: u32,
-        item: u32,
-        right: u32,
-        strategy: Strategy,
-    },
+    Walked { access: Access, strategy: Strategy },
     /// The least distance of an arrival of the sign.
-    Least {
-        account: u32,
-        item: u32,
-        right: u32,
-        sign: Sign,
-    },
+    Least { access: Access, sign: Sign },
 }
 
 /// What a call gave: nothing, an answer or a distance, each unless it was refused.
-#[derive(Clone, Copy)]
+#[derive(Clone, Copy, PartialEq, Eq, Debug)]
 pub enum Reply {
     Done(Result<(), Refusal>),
     Answered(Result<Answer, Refusal>),

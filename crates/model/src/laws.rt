@@ -1,4 +1,5 @@
 //! What is proved of the model itself. The functions compute nothing.
+// Functions all the same: only what stands in a function's contract is proved.
 
 ghost use Rattle.model.specs.Charts.{WorkedCharts};
 ghost use Rattle.model.specs.ListingLaws.{DefaultRows, FewRows, NearRows, SignedRows};
@@ -21,6 +22,7 @@ pub fn runs_stay_sound() -> u8
 
 /// Wherever calls have led, a join is refused as a circle exactly if both accounts are known and a chain leads from the member
 /// down to the group.
+#[tactic(auto, using(crate::proofs::Circles::circles_in_runs))]
 pub fn circles_in_runs() -> u8
     ensures { CirclesInRuns }
 {
@@ -28,6 +30,7 @@ pub fn circles_in_runs() -> u8
 }
 
 /// The arrivals of a sign at a distance are a sum of products of account chains and item chains, over the standing grants.
+#[tactic(auto, using(crate::proofs::Counting::counted_signed))]
 pub fn signed_rows() -> u8
     ensures { SignedRows }
 {
@@ -35,6 +38,7 @@ pub fn signed_rows() -> u8
 }
 
 /// The default marks at a distance are a sum of chain counts, over the accounts that they start from.
+#[tactic(auto, using(crate::proofs::Counting::counted_default))]
 pub fn default_rows() -> u8
     ensures { DefaultRows }
 {
@@ -42,6 +46,7 @@ pub fn default_rows() -> u8
 }
 
 /// No mark comes over a distance of more than 14.
+#[tactic(auto, using(crate::proofs::Bounds::listed_near))]
 pub fn near_rows() -> u8
     ensures { NearRows }
 {
@@ -49,6 +54,7 @@ pub fn near_rows() -> u8
 }
 
 /// No more than 104,498,155,008 marks reach a question, whatever calls have led there.
+#[tactic(auto, using(crate::proofs::Bounds::listed_few))]
 pub fn few_rows() -> u8
     ensures { FewRows }
 {

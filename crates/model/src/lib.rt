@@ -2,6 +2,7 @@
 //! arguments alone. The book is held to these definitions; nothing here knows of tables or of memory.
 #![tactic(auto)]
 
+pub mod access;
 pub mod answer;
 pub mod answering;
 pub mod call;

@@ -1,7 +1,8 @@
 //! What the book says no with.
 
 ghost use Rattle.model.specs.Refusals.{refusal_number};
-ghost use Rattle.std.specs.Prelude.{◌≡◌};
+
+use numbered::Numbered;
 
 /// Why a call is refused. Each has the number that a caller is told. A refused call changes nothing.
 #[derive(Clone, Copy, PartialEq, Eq, Debug)]
@@ -32,11 +33,11 @@ pub enum Refusal {
     ItemUnknown = 12,
 }
 
-impl Refusal {
+impl Numbered for Refusal {
+    ghost number_of = { refusal_number };
+
     /// The number that a caller is told, 1 to 12.
-    pub fn number(self) -> u32
-        ensures { result ≡ refusal_number self }
-    {
+    fn number(self) -> u32 {
         self as u32
     }
 }

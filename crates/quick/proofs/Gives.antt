@@ -9,7 +9,7 @@ use Rattle.chains.specs.Chains.{Members, count}
 use Rattle.chains.specs.Table.{row_of}
 use Rattle.strategies.specs.Resolve.{same_sign}
 use Rattle.strategies.specs.declared.marks.Sign.{Sign}
-use Rattle.table.specs.Tables.{SoundTable, members_in}
+use Rattle.table.specs.Tables.{members_in}
 use Rattle.table.specs.declared.tables.Table.{Table}
 use Rattle.model.specs.Grants.{misfit}
 use Rattle.model.specs.Counted.{Lengths, of_grant, of_grants, products}
@@ -66,8 +66,8 @@ of_grant_no_items n E L s r sign d g none = pick (eqb g.right r && same_sign sig
     pick true = products_no_items (count n E g.account s) (L g.item) d none
     pick false = refl
 
--- no grant of a sound table gives much
-module _ (t : Table) (sound : SoundTable t) (L : Lengths) (small : (b k : ℕ) → b < 256 → L b k ≤ 128) (s : ℕ) (end : s < t.accounts) (r : ℕ) (sign : Sign) (d : ℕ) where
+-- no grant of a table gives much
+module _ (t : Table) (L : Lengths) (small : (b k : ℕ) → b < 256 → L b k ≤ 128) (s : ℕ) (end : s < t.accounts) (r : ℕ) (sign : Sign) (d : ℕ) where
   grant_few : (g : Grant) → g.account < t.accounts → g.item < 256 → of_grant t.accounts (members_in t) L s r sign d g ≤ 102398976
   unfolding of_grant
   grant_few g la li =
@@ -76,7 +76,7 @@ module _ (t : Table) (sound : SoundTable t) (L : Lengths) (small : (b k : ℕ) �
       (λ e.
       let same = products_row t.accounts (members_in t) g.account s (L g.item) d in
       let apart = products_shifted (λ i. get_or (row_of t.accounts (members_in t) g.account s) i 0) (L g.item) d in
-      let few = shifted_sum_few 8 (λ i. get_or (row_of t.accounts (members_in t) g.account s) i 0) (L g.item) d (omega arith) (row_few t sound g.account s la end) (λ k. small g.item k li) in
+      let few = shifted_sum_few 8 (λ i. get_or (row_of t.accounts (members_in t) g.account s) i 0) (L g.item) d (omega arith) (row_few t g.account s la end) (λ k. small g.item k li) in
       omega arith)
       (λ e. omega arith)
 

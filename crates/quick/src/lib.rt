@@ -1,5 +1,5 @@
 //! The quick question: the marks that reach an account, read off the table of chain counts. An inner layer, whose calls require
-//! a sound table and grants that fit.
+//! a known account.
 #![tactic(auto)]
 
 mod arriving;

@@ -15,11 +15,11 @@ record_step n capacity M rs (Join p c) = rs
 record_step n capacity M rs (Leave p c) = rs
 record_step n capacity M rs (Give g) =
     where_accepted (give_outcome n capacity M g.account g.item g.right) (slice_set rs (length M.grants) g) rs
-record_step n capacity M rs (Withdraw a i r) =
-    where_accepted (withdraw_outcome n M a i r) (others a i r M.grants ++ drop (length M.grants - 1) rs) rs
-record_step n capacity M rs (Quick s o r t) = rs
-record_step n capacity M rs (Walked s o r t) = rs
-record_step n capacity M rs (Least s o r t) = rs
+record_step n capacity M rs (Withdraw x) =
+    where_accepted (withdraw_outcome n M x.account x.item x.right) (others x.account x.item x.right M.grants ++ drop (length M.grants - 1) rs) rs
+record_step n capacity M rs (Quick x t) = rs
+record_step n capacity M rs (Walked x t) = rs
+record_step n capacity M rs (Least x t) = rs
 
 -- the records after a list of calls
 unfoldable pub record_run : ℕ → ℕ → Model → List Grant → List Call → List Grant

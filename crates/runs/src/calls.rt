@@ -28,34 +28,16 @@ pub fn step<P: Plan>(book: &mut Book, plan: &P, call: Call) -> Reply
         Call::Join { group, member } => Reply::Done(book.join(group, member)),
         Call::Leave { group, member } => Reply::Done(book.leave(group, member)),
         Call::Give { grant } => Reply::Done(book.grant(grant)),
-        Call::Withdraw {
-            account,
-            item,
-            right,
-        } => Reply::Done(book.withdraw(account, item, right)),
-        Call::Quick {
-            account,
-            item,
-            right,
-            strategy,
-        } => Reply::Answered(book.quick(plan, account, item, right, strategy)),
-        Call::Walked {
-            account,
-            item,
-            right,
-            strategy,
-        } => Reply::Answered(book.walked(plan, account, item, right, strategy)),
-        Call::Least {
-            account,
-            item,
-            right,
-            sign,
-        } => Reply::Distance(book.least(plan, account, item, right, sign)),
+        Call::Withdraw { access } => Reply::Done(book.withdraw(access)),
+        Call::Quick { access, strategy } => Reply::Answered(book.quick(plan, access, strategy)),
+        Call::Walked { access, strategy } => Reply::Answered(book.walked(plan, access, strategy)),
+        Call::Least { access, sign } => Reply::Distance(book.least(plan, access, sign)),
     }
 }
 
 /// Makes the calls in their order, as many as there is room for replies, and goes on where one is refused. Gives the number of
 /// calls that were made. Replies behind them are left as they are.
+#[tactic(auto, unfolding(model::specs::Runs::run, model::specs::Runs::run_replies, crate::specs::Records::record_run))]
 pub fn run_calls<P: Plan>(book: &mut Book, plan: &P, calls: &[Call], replies: &mut [Reply]) -> usize
     ensures made { result ≡ min (length calls.now) (length replies.old) }
     ensures after { shown book.new ≡ run (accounts_of book.old) (capacity_in book.old) (shown book.old) (take result calls.now) }
@@ -66,8 +48,9 @@ pub fn run_calls<P: Plan>(book: &mut Book, plan: &P, calls: &[Call], replies: &m
     ensures capacity { capacity_in book.new ≡ capacity_in book.old }
 {
     let many = calls.len().min(replies.len());
-    for i in 0..many {
-        replies[i] = step(book, plan, calls[i]);
+    // An index and not `replies.iter_mut().zip(calls)`: after that chain a proof knows how many replies there are, and not which.
+    for (i, call) in calls[..many].iter().enumerate() {
+        replies[i] = step(book, plan, *call);
     }
     many
 }
@@ -76,6 +59,7 @@ pub fn run_calls<P: Plan>(book: &mut Book, plan: &P, calls: &[Call], replies: &m
 ///
 /// What stands afterwards, every reply and every number in both pieces of memory are those of the model, which is fed the number
 /// of accounts, the capacity and the calls, and nothing of the book.
+#[tactic(auto, using(model::proofs::Circles::circles_in_runs))]
 pub fn make_and_run<'a, P: Plan>(
     counts: &'a mut [u32],
     records: &'a mut [Grant],

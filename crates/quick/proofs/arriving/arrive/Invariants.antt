@@ -7,4 +7,4 @@ use Rattle.quick.proofs.arriving.arrive.Given as goal
 -- the grants so far have given what they give
 abbrev pub invariant-loop-grant : goal.invariant-loop-grant
 invariant-loop-grant l =
-    ArrivedBy l.table.accounts (members_in l.table) (entry l.items.counts) l.s l.right (take l.grant-index l.grants) l.plus l.minus l.held
+    ArrivedBy l.fn.from.table.now.accounts (members_in l.fn.from.table.now) (entry l.items.counts) l.access.account l.access.right (take l.grant-index l.fn.from.grants.now) l.arrived.plus l.arrived.minus l.arrived.held

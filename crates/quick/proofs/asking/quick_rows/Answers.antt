@@ -18,8 +18,8 @@ invariant_of-result-3 g c = record { long = c.default_row-default.ensures.row.0;
 
 pub returns : goal.returns
 returns g c =
-    let t = c.args.table.now in
-    let gs = c.args.grants.now in
+    let t = c.args.from.now.table.now in
+    let gs = c.args.from.now.grants.now in
     let counts = c.item_counts-items.result.counts in
     let M : Model = record { members = members_in t; grants = gs } in
     let a = c.arrive-arrived in
@@ -29,7 +29,7 @@ returns g c =
       minus = record { counts = a.result.minus; long = a.ensures.minus_row.0; small = a.ensures.minus_row.1 };
       default = record { counts = d.result; long = d.ensures.row.0; small = d.ensures.row.1 };
     } in
-    counts_listing t.accounts M (g.P.Plan.meaning c.args.plan.now) c.args.s c.args.item c.args.right counts c.item_counts-items.ensures.counted
-    (fit_items t.accounts gs c.requires.fitting) rows c.arrive-arrived.ensures.plus c.arrive-arrived.ensures.minus
+    counts_listing t.accounts M (g.P.Plan.meaning c.args.plan.now) c.args.access.account c.args.access.item c.args.access.right counts c.item_counts-items.ensures.counted
+    (fit_items t.accounts gs c.args.from.now.fitting) rows c.arrive-arrived.ensures.plus c.arrive-arrived.ensures.minus
     (λ d l. c.default_row-default.ensures.sums d l
-    ∙ defaults_all t.accounts (members_in t) gs (entry counts) c.arrive-arrived.result.held c.args.s c.args.right d (omega (arith, c.requires.sound.fits.0)) c.arrive-arrived.ensures.held)
+    ∙ defaults_all t.accounts (members_in t) gs (entry counts) c.arrive-arrived.result.held c.args.access.account c.args.access.right d (omega (arith, c.args.from.now.table.now.holds.few)) c.arrive-arrived.ensures.held)

@@ -11,13 +11,12 @@ pub add_default-requires : goal.add_default-requires
 add_default-requires c =
     let t = c.args.table.now in
     record {
-      sound = c.requires.sound;
       top = omega arith;
       end = c.requires.end;
       room = λ d l.
           let old = c.loop-a.invariant.1 d l in
-          let few = defaults_few t.accounts (members_in t) c.args.held.now c.args.s d c.loop-a.a (omega (arith, c.requires.sound.fits.0))
-          (λ a u k. count_few t c.requires.sound a c.args.s d (omega arith) c.requires.end k) in
+          let few = defaults_few t.accounts (members_in t) c.args.held.now c.args.s d c.loop-a.a (omega (arith, c.args.table.now.holds.few))
+          (λ a u k. count_few t a c.args.s d (omega arith) c.requires.end k) in
           omega arith;
     }
 
@@ -65,8 +64,8 @@ returns c =
         c.loop-a.invariant.0,
         λ d l.
             let old = c.loop-a.invariant.1 d l in
-            let few = defaults_few t.accounts (members_in t) c.args.held.now c.args.s d c.loop-a.a (omega (arith, c.requires.sound.fits.0))
-            (λ a u k. count_few t c.requires.sound a c.args.s d (omega arith) c.requires.end k) in
+            let few = defaults_few t.accounts (members_in t) c.args.held.now c.args.s d c.loop-a.a (omega (arith, c.args.table.now.holds.few))
+            (λ a u k. count_few t a c.args.s d (omega arith) c.requires.end k) in
             omega arith,
       );
     }

@@ -1,7 +1,6 @@
-use Rattle.std.proofs.Common.{refl, arith}
-use Rattle.model.specs.Grants.{repeated}
+use Rattle.std.proofs.Common.{refl}
+use Rattle.records.proofs.Kept.{none_kept}
 use Rattle.records.proofs.grants.Grants.none.Goals as goal
 
-pub returns : goal.returns
-unfolding repeated
-returns c = record { memory = refl; none = refl; kept = λ n. record { room = omega arith; fitting = refl; once = refl } }
+pub returns-clause-kept : goal.returns-clause-kept
+returns-clause-kept c n = none_kept n _ refl
