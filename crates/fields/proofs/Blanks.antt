@@ -1,7 +1,6 @@
 -- Blanks: one step over them, where the steps end, and fields as blanks and what stands behind. Assumes nothing.
-use Rattle.std.proofs.Common.{◌≡◌, ℕ, zero, suc, ◌+◌, ◌-◌, ◌<◌, ◌≤◌, eqb, List, [], ◌∷◌, ◌++◌, length, get_or, take, drop, replicate, Ok, Err, Result, sym, refl, ap, ◌∙◌, subst, ap₂, ⊎_elim, arith, length-append}
+use Rattle.std.proofs.Common.{◌≡◌, ℕ, zero, suc, ◌+◌, ◌-◌, ◌<◌, ◌≤◌, eqb, List, [], ◌∷◌, ◌++◌, length, get_or, drop, replicate, Ok, Err, Result, sym, refl, ap, ◌∙◌, subst, ap₂, ⊎_elim, arith, length-append}
 use lib.ListN.{length-replicate}
-use Rattle.std.proofs.lemmas.List.{take_rest, at_drop_more, at_drop_all}
 use Rattle.std.proofs.lemmas.Bool.{eq-eqb, ne_eqb, eqb-true, eqb-false, cond-true, cond-false, cases_Bool}
 use Rattle.fields.specs.declared.faults.FieldCause.TheVariants.{Blank}
 use Rattle.fields.specs.declared.faults.FieldFault.{FieldFault}
@@ -12,26 +11,39 @@ use Rattle.fields.specs.Spelling.{right_justified, FirstFilled}
 pub no_ok : {A E : Type 0} {x : A} {f : E} → ◌≡◌ {A = Result A E} (Err f) (Ok x) → ⊥
 no_ok {x} {f} e = let z : ◌≡◌ {A = ℕ} 0 1 = cc in omega arith
 
-pub blank_step : (xs : List ℕ) → 0 < length xs → get_or xs 0 0 ≡ 32 → past_blanks (take (length xs - 1) (drop 1 xs)) ≡ past_blanks xs
-blank_step [] h e = absurd (omega arith)
-blank_step (x ∷ xs) h e = ap past_blanks (take_rest (x ∷ xs) 1) ∙ sym (cond-true (eqb x 32) (past_blanks xs) (x ∷ xs) (eq-eqb x 32 e))
+-- the first n bytes of xs are blanks, and no byte more
+pub record Front (xs : List ℕ) (n : ℕ) : Type 0 where
+  pub within : n ≤ length xs
+  pub before : (k : ℕ) → k < n → get_or xs k 0 ≡ 32
+  pub found : n < length xs → get_or xs n 0 ≡ 32 → ⊥
 
-pub blank_stop : (xs : List ℕ) → (get_or xs 0 0 ≡ 32 → ⊥) → xs ≡ past_blanks xs
-blank_stop [] h = refl
-blank_stop (x ∷ xs) h = sym (cond-false (eqb x 32) (past_blanks xs) (x ∷ xs) (ne_eqb x 32 h))
+one_less : (x n : ℕ) (xs : List ℕ) → Front (x ∷ xs) (suc n) → Front xs n
+one_less x n xs e = record { within = omega (arith, e.within); before = λ k l. e.before (suc k) (omega arith); found = λ l. e.found (omega arith) }
 
-pub blank_end : (xs : List ℕ) → length xs < 1 → xs ≡ past_blanks xs
-blank_end [] h = refl
-blank_end (x ∷ xs) h = absurd (omega arith)
+pub past_is : (xs : List ℕ) (n : ℕ) → Front xs n → drop n xs ≡ past_blanks xs
+past_is [] zero e = refl
+past_is [] (suc n) e = absurd (omega (arith, e.within))
+past_is (x ∷ xs) zero e = sym (cond-false (eqb x 32) (past_blanks xs) (x ∷ xs) (ne_eqb x 32 (e.found (omega arith))))
+past_is (x ∷ xs) (suc n) e =
+    past_is xs n (one_less x n xs e) ∙ sym (cond-true (eqb x 32) (past_blanks xs) (x ∷ xs) (eq-eqb x 32 (e.before 0 (omega arith))))
 
-pub column_blank : (col : ℕ) (xs : List ℕ) (i : ℕ) → i < length xs → get_or xs i 0 ≡ 32 → blanks_from col (drop i xs) ≡ blanks_from (col + 1) (drop (i + 1) xs)
-column_blank col xs i h e = at_drop_more (blanks_from col) xs i 0 h ∙ cond-true (eqb (get_or xs i 0) 32) _ _ (eq-eqb _ 32 e)
+-- the columns of a field are refused at the first that is not blank, or pass
+pub filled_is : (column n : ℕ) (xs : List ℕ) → Front xs n → n < length xs → Err (fault_of Blank (column + n)) ≡ blanks_from column xs
+filled_is column n [] e l = absurd (omega arith)
+filled_is column zero (x ∷ xs) e l =
+    let here : column + 0 ≡ column = omega arith in
+    ap (λ c. Err (fault_of Blank c)) here ∙ sym (cond-false (eqb x 32) _ _ (ne_eqb x 32 (e.found l)))
+filled_is column (suc n) (x ∷ xs) e l =
+    let further : column + suc n ≡ column + 1 + n = omega arith in
+    ap (λ c. Err (fault_of Blank c)) further
+    ∙ filled_is (column + 1) n xs (one_less x n xs e) (omega arith)
+    ∙ sym (cond-true (eqb x 32) _ _ (eq-eqb x 32 (e.before 0 (omega arith))))
 
-pub column_filled : (col : ℕ) (xs : List ℕ) (i : ℕ) → i < length xs → (get_or xs i 0 ≡ 32 → ⊥) → blanks_from col (drop i xs) ≡ Err (record { cause = Blank; column = col })
-column_filled col xs i h e = at_drop_more (blanks_from col) xs i 0 h ∙ cond-false (eqb (get_or xs i 0) 32) _ _ (ne_eqb _ 32 e)
-
-pub columns_end : (col : ℕ) (xs : List ℕ) (i : ℕ) → length xs ≤ i → blanks_from col (drop i xs) ≡ Ok tt
-columns_end col xs i h = at_drop_all (blanks_from col) xs i h
+pub blank_is : (column n : ℕ) (xs : List ℕ) → Front xs n → length xs ≤ n → Ok tt ≡ blanks_from column xs
+blank_is column n [] e l = refl
+blank_is column zero (x ∷ xs) e l = absurd (omega arith)
+blank_is column (suc n) (x ∷ xs) e l =
+    blank_is (column + 1) n xs (one_less x n xs e) (omega arith) ∙ sym (cond-true (eqb x 32) _ _ (eq-eqb x 32 (e.before 0 (omega arith))))
 
 -- a field is blanks, and what stands behind them
 blanks_front : (bs : List ℕ) → (k : ℕ) × (bs ≡ replicate k 32 ++ past_blanks bs)

@@ -1,7 +1,10 @@
 -- A field that names a strategy: found among all of them, and written in one way. Assumes nothing.
-use Rattle.std.proofs.Common.{◌≡◌, ℕ, zero, suc, ◌-◌, ◌<◌, ◌≤◌, Bool, true, false, ◌&&◌, eqb, ltb, leb, List, [], ◌∷◌, length, get_or, Some, None, Ok, Err, Option, Result, sym, refl, ap, ◌∙◌, arith}
+use Rattle.std.proofs.Common.{◌≡◌, ℕ, zero, suc, ◌-◌, ◌<◌, ◌≤◌, Bool, true, false, ◌&&◌, eqb, ltb, leb, List, [], ◌∷◌, length, get_or, Some, None, Ok, Err, Option, Result, sym, refl, ap, ◌∙◌, subst, arith}
 use Rattle.std.specs.Str.{bytes_eq}
 use Rattle.std.specs.Option.{ok_or}
+use Rattle.std.specs.Result.{MatchResult, IsErrAnd}
+use Rattle.fields.specs.declared.faults.FieldCause.TheVariants.{Name}
+use Rattle.fields.specs.Checks.{fault_of, name_in}
 use Rattle.std.proofs.lemmas.Bool.{cond-true, cond-false, and_parts, eqb-true, leb-true, ltb-true, true≢false}
 use Rattle.std.proofs.lemmas.Bool.Decides.{Decides-below_and}
 use Rattle.std.proofs.lemmas.Slice.Eq.{bytes_eq-Decides}
@@ -95,14 +98,29 @@ pub name_behind : (width k : ℕ) → k < 48 → past_blanks (right_justified wi
 name_behind width k h = past_front (width - length (name_of k)) (name_of k) (name_filled k h)
 
 -- what the two ways of the field's reader owe
-pub named_field : (bs : List ℕ) (s : Strategy) (f : FieldFault) → name_of (number_of s) ≡ past_blanks bs → ((t : Strategy) → name_of (number_of t) ≡ past_blanks bs → ◌≡◌ {A = Result Strategy NotAName} (Ok s) (Ok t)) → (Ok s ≡ ok_or (strategy_named (past_blanks bs)) f) × Named bs (Ok s)
+named_field : (bs : List ℕ) (s : Strategy) (f : FieldFault) → name_of (number_of s) ≡ past_blanks bs → ((t : Strategy) → name_of (number_of t) ≡ past_blanks bs → ◌≡◌ {A = Result Strategy NotAName} (Ok s) (Ok t)) → (Ok s ≡ ok_or (strategy_named (past_blanks bs)) f) × Named bs (Ok s)
 named_field bs s f e one = (
   sym (ap (λ o. ok_or o f) (some_named (past_blanks bs) s e one)),
   justified_past bs ∙ ap (right_justified (length bs)) (sym e),
 )
 
-pub nameless_field : (bs : List ℕ) (f : FieldFault) → ((k : ℕ) → k < 48 → name_of k ≡ past_blanks bs → ⊥) → (Err f ≡ ok_or (strategy_named (past_blanks bs)) f) × Named bs (Err f)
+nameless_field : (bs : List ℕ) (f : FieldFault) → ((k : ℕ) → k < 48 → name_of k ≡ past_blanks bs → ⊥) → (Err f ≡ ok_or (strategy_named (past_blanks bs)) f) × Named bs (Err f)
 nameless_field bs f h = (
   sym (ap (λ o. ok_or o f) (none_named (past_blanks bs) h)),
   λ k l is. h k l (sym (ap past_blanks is ∙ name_behind (length bs) k l)),
 )
+
+-- what the reader of a name owes, where `of` says what a refused name is given as
+pub read_name : (bs text : List ℕ) (column : ℕ) (r : Result Strategy NotAName) (q : Result Strategy FieldFault) (of : NotAName → FieldFault → Type 0) → text ≡ past_blanks bs
+    → MatchResult r (λ s. name_of (number_of s) ≡ text) (λ _. (k : ℕ) → k < 48 → name_of k ≡ text → ⊥)
+    → ((s : Strategy) → name_of (number_of s) ≡ text → r ≡ Ok s)
+    → MatchResult r (λ s. q ≡ Ok s) (λ e. IsErrAnd q (λ f. of e f))
+    → ((e : NotAName) (f : FieldFault) → of e f → f ≡ fault_of (Name (record {})) column)
+    → (q ≡ name_in bs column) × Named bs q
+read_name bs text column (Ok s) q of is name one got same =
+    subst (λ q. (q ≡ name_in bs column) × Named bs q) (sym got)
+    (named_field bs s (fault_of (Name (record {})) column) (name ∙ is) (λ t e. one t (e ∙ sym is)))
+read_name bs text column (Err e) (Ok t) of is none one got same = absurd got
+read_name bs text column (Err e) (Err f) of is none one got same =
+    subst (λ f. (Err f ≡ name_in bs column) × Named bs (Err f)) (sym (same e f got))
+    (nameless_field bs (fault_of (Name (record {})) column) (λ k l h. none k l (h ∙ sym is)))

@@ -3,7 +3,7 @@
 use strategies::names::NotAName;
 
 /// Why a field is not what it should be.
-#[derive(Clone, Copy, PartialEq, Eq)]
+#[derive(Clone, Copy, PartialEq, Eq, Debug)]
 pub enum FieldCause {
     /// The field is not a strategy's name, right-justified: 16.
     Name(NotAName),
@@ -16,7 +16,7 @@ pub enum FieldCause {
 }
 
 /// A field's fault: its cause, and its column. For a name and a number that is the field's first column.
-#[derive(Clone, Copy, PartialEq, Eq)]
+#[derive(Clone, Copy, PartialEq, Eq, Debug)]
 pub struct FieldFault {
     pub cause: FieldCause,
     pub column: u32,

@@ -1,15 +1,15 @@
 //! The number of a field's fault.
 
-ghost use Rattle.std.specs.Prelude.{◌≡◌};
 ghost use Rattle.fields.specs.FaultNumbers.{cause_number};
 
 use crate::faults::FieldCause;
+use numbered::Numbered;
 
-impl FieldCause {
+impl Numbered for FieldCause {
+    ghost number_of = { cause_number };
+
     /// The number of the cause: 16, 19 or 20.
-    pub fn number(self) -> u32
-        ensures answer { result ≡ cause_number self }
-    {
+    fn number(self) -> u32 {
         match self {
             FieldCause::Name(refusal) => refusal.number(),
             FieldCause::Number => 19,

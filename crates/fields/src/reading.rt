@@ -1,6 +1,6 @@
 //! What a field says, whatever bytes it holds.
 
-ghost use Rattle.std.specs.Prelude.{◌≡◌, ◌+◌, ◌-◌, ◌*◌, ◌≤◌, length};
+ghost use Rattle.std.specs.Prelude.{◌≡◌, ℕ, ◌+◌, ◌-◌, ◌*◌, ◌<◌, ◌≤◌, length, ◌≢◌, slice_index};
 ghost use Rattle.fields.specs.Fields.{past_blanks, digits_after, field_number};
 ghost use Rattle.fields.specs.Checks.{fault_of, number_in, blanks_from, is_blank, optional_in, sign_in, name_in};
 ghost use Rattle.fields.specs.Spelling.{FirstFilled, Spelled, Named};
@@ -10,19 +10,25 @@ use crate::field::Field;
 use strategies::marks::Sign;
 use strategies::strategy::Strategy;
 
+// How many blanks lead the bytes.
+fn leading_blanks(bytes: &[u8]) -> usize
+    ensures within { result ≤ length bytes.now }
+    ensures before { (k : ℕ) → k < result → slice_index bytes.now k ≡ 32 }
+    ensures found { result < length bytes.now → slice_index bytes.now result ≢ 32 }
+{
+    bytes.iter().position(|b| *b != b' ').unwrap_or(bytes.len())
+}
+
 // The bytes behind the leading blanks.
 fn trim_blanks(bytes: &[u8]) -> &[u8]
     ensures value { result.now ≡ past_blanks bytes.now }
     ensures shorter { length result.now ≤ length bytes.now }
 {
-    let mut left = bytes;
-    while let [b' ', rest @ ..] = left {
-        left = rest;
-    }
-    left
+    &bytes[leading_blanks(bytes)..]
 }
 
 // The number that at most nine digits write.
+// A loop and not `try_fold`: how large the number so far is rests on how many digits came, which a closure does not see.
 fn digits(bytes: &[u8]) -> Option<u32>
     requires { length bytes.now ≤ 9 }
     ensures value { result ≡ digits_after 0 bytes.now }
@@ -79,10 +85,10 @@ impl Field<'_> {
         ensures answer { result ≡ optional_in self.entry.bytes.now self.entry.column }
     {
         if self.is_blank() {
-            return Ok(None);
+            Ok(None)
+        } else {
+            self.number().map(Some)
         }
-        let value = self.number()?;
-        Ok(Some(value))
     }
 
     /// Refuses the first byte that is not a blank, at its column.
@@ -90,15 +96,12 @@ impl Field<'_> {
         ensures answer { result ≡ blanks_from self.entry.column self.entry.bytes.now }
         ensures first { FirstFilled self.entry.column self.entry.bytes.now result }
     {
-        let mut column = self.column;
-        for b in self.bytes {
-            if *b != b' ' {
-                return Err(FieldFault {
-                    cause: FieldCause::Blank,
-                    column,
-                });
-            }
-            column += 1;
+        let blanks = leading_blanks(self.bytes);
+        if blanks < self.bytes.len() {
+            return Err(FieldFault {
+                cause: FieldCause::Blank,
+                column: self.column + blanks as u32,
+            });
         }
         Ok(())
     }
@@ -119,9 +122,10 @@ impl Field<'_> {
         ensures answer { result ≡ name_in self.entry.bytes.now self.entry.column }
         ensures named { Named self.entry.bytes.now result }
     {
-        match Strategy::named(trim_blanks(self.bytes)) {
-            Ok(strategy) => Ok(strategy),
-            Err(refusal) => Err(self.fault(FieldCause::Name(refusal))),
-        }
+        let column = self.column;
+        Strategy::named(trim_blanks(self.bytes)).map_err(|refusal| FieldFault {
+            cause: FieldCause::Name(refusal),
+            column,
+        })
     }
 }

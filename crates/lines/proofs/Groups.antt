@@ -1,7 +1,8 @@
--- Two numbers, three numbers, an item's containers: read exactly if they are written so. Assumes nothing.
+-- Two numbers, an access: read exactly if they are written so. Assumes nothing.
 use Rattle.std.proofs.Common.{◌≡◌, ℕ, List, [], ◌∷◌, ◌++◌, length, take, Ok, Err, Result, refl, ap, ◌∙◌, subst, ap₂, arith}
 use Rattle.fields.specs.Checks.{then, number_in, blanks_from}
-use Rattle.lines.specs.Lines.{at_columns, pair_of, triple_of}
+use Rattle.model.specs.declared.access.Access.{Access}
+use Rattle.lines.specs.Lines.{at_columns, pair_of, access_of}
 use Rattle.lines.specs.Writing.{blanks, five, FitsFive}
 use Rattle.fields.proofs.Blanks.{no_ok, blanks_only}
 use Rattle.lines.proofs.Columns.{five_only, five_long, five_back}
@@ -44,9 +45,9 @@ pair_back a b fa fb =
     ∙ ap (λ r. then r (λ b. then (blanks_from 12 (at_columns 12 18 X)) (λ _. Ok (a, b)))) second
     ∙ ap (λ r. then r (λ _. Ok (a, b))) blank
 
-pub triple_only : (X : List ℕ) (r : ℕ × ℕ × ℕ) → length X ≡ 17 → triple_of X ≡ Ok r
-    → FitsFive r.0 × FitsFive r.1 × FitsFive r.2 × (X ≡ five r.0 ++ (five r.1 ++ (five r.2 ++ (32 ∷ at_columns 18 18 X))))
-triple_only X r long e =
+pub access_only : (X : List ℕ) (r : Access) → length X ≡ 17 → access_of X ≡ Ok r
+    → FitsFive r.account × FitsFive r.item × FitsFive r.right × (X ≡ five r.account ++ (five r.item ++ (five r.right ++ (32 ∷ at_columns 18 18 X))))
+access_only X r long e =
     let p = then_ok (number_in (at_columns 2 6 X) 2) _ r e in
     let q = then_ok (number_in (at_columns 7 11 X) 7) _ r p.2 in
     let t = then_ok (number_in (at_columns 12 16 X) 12) _ r q.2 in
@@ -57,7 +58,7 @@ triple_only X r long e =
     let blank = blank_columns 17 1 (at_columns 17 17 X) (wide 15 1 X (omega arith)) b.1 in
     let two : at_columns 17 18 X ≡ 32 ∷ at_columns 18 18 X = pieces_two X long ∙ ap (λ l. l ++ at_columns 18 18 X) blank in
     subst
-    (λ (r : ℕ × ℕ × ℕ). FitsFive r.0 × FitsFive r.1 × FitsFive r.2 × (X ≡ five r.0 ++ (five r.1 ++ (five r.2 ++ (32 ∷ at_columns 18 18 X)))))
+    (λ (r : Access). FitsFive r.account × FitsFive r.item × FitsFive r.right × (X ≡ five r.account ++ (five r.item ++ (five r.right ++ (32 ∷ at_columns 18 18 X)))))
     (ok_same b.2) (
       first.0,
       second.0,
@@ -66,8 +67,8 @@ triple_only X r long e =
           ∙ ap₂ (λ (x y : List ℕ). x ++ y) first.1 (ap₂ (λ (x y : List ℕ). x ++ y) second.1 (ap₂ (λ (x y : List ℕ). x ++ y) third.1 two)),
     )
 
-pub triple_back : (a b c y : ℕ) → FitsFive a → FitsFive b → FitsFive c → triple_of (five a ++ (five b ++ (five c ++ (32 ∷ y ∷ [])))) ≡ Ok (a, b, c)
-triple_back a b c y fa fb fc =
+pub access_back : (a b c y : ℕ) → FitsFive a → FitsFive b → FitsFive c → access_of (five a ++ (five b ++ (five c ++ (32 ∷ y ∷ [])))) ≡ Ok (record { account = a; item = b; right = c })
+access_back a b c y fa fb fc =
     let la = five_long a fa in
     let lb = five_long b fb in
     let lc = five_long c fc in
@@ -78,7 +79,7 @@ triple_back a b c y fa fb fc =
     ap (λ l. number_in l 12) (third_at (five a) (five b) (five c) _ la lb lc) ∙ five_back c 12 fc in
     let blank : blanks_from 17 (at_columns 17 17 X) ≡ Ok tt =
     ap (λ l. blanks_from 17 (take 1 l)) (behind_three (five a) (five b) (five c) (32 ∷ y ∷ []) la lb lc) in
-    ap (λ r. then r (λ a. then (number_in (at_columns 7 11 X) 7) (λ b. then (number_in (at_columns 12 16 X) 12) (λ c. then (blanks_from 17 (at_columns 17 17 X)) (λ _. Ok (a, b, c)))))) first
-    ∙ ap (λ r. then r (λ b. then (number_in (at_columns 12 16 X) 12) (λ c. then (blanks_from 17 (at_columns 17 17 X)) (λ _. Ok (a, b, c))))) second
-    ∙ ap (λ r. then r (λ c. then (blanks_from 17 (at_columns 17 17 X)) (λ _. Ok (a, b, c)))) third
-    ∙ ap (λ r. then r (λ _. Ok (a, b, c))) blank
+    ap (λ r. then r (λ a. then (number_in (at_columns 7 11 X) 7) (λ b. then (number_in (at_columns 12 16 X) 12) (λ c. then (blanks_from 17 (at_columns 17 17 X)) (λ _. Ok (record { account = a; item = b; right = c })))))) first
+    ∙ ap (λ r. then r (λ b. then (number_in (at_columns 12 16 X) 12) (λ c. then (blanks_from 17 (at_columns 17 17 X)) (λ _. Ok (record { account = a; item = b; right = c }))))) second
+    ∙ ap (λ r. then r (λ c. then (blanks_from 17 (at_columns 17 17 X)) (λ _. Ok (record { account = a; item = b; right = c })))) third
+    ∙ ap (λ r. then r (λ _. Ok (record { account = a; item = b; right = c }))) blank

@@ -4,18 +4,19 @@ use Rattle.std.proofs.lemmas.List.{take_all}
 use Rattle.std.proofs.lemmas.Bool.{cond-true, eq-eqb}
 use Rattle.strategies.specs.Names.{name_of, number_of}
 use Rattle.strategies.specs.declared.strategy.Strategy.{Strategy}
+use Rattle.model.specs.declared.access.Access.{Access}
 use Rattle.model.specs.declared.grant.Grant.{Grant}
 use Rattle.lines.specs.declared.line.Line.{Line}
 use Rattle.lines.specs.declared.line.Line.TheVariants.{Join, Leave, Give, Withdraw, Ask, Equip, Choose}
 use Rattle.fields.specs.Checks.{then, number_in, blanks_from, sign_in, name_in}
-use Rattle.lines.specs.Lines.{at_columns, raised, triple_of, containers_of, command_of, line_of}
+use Rattle.lines.specs.Lines.{at_columns, raised, access_alone_of, containers_of, command_of, line_of}
 use Rattle.fields.specs.Spelling.{right_justified}
 use Rattle.lines.specs.Writing.{blanks, five, five_or_blank, sign_byte, written, Writable, FitsFive, ContainersFit}
 use Rattle.lines.specs.Laws.{OneSpelling}
 use Rattle.fields.proofs.Blanks.{justified_long}
 use Rattle.lines.proofs.Columns.{five_long, five_back, optional_long, sign_back}
 use Rattle.lines.proofs.Containers.{containers_by, containers_back, first_fits, second_fits}
-use Rattle.lines.proofs.Groups.{pair_back, triple_back}
+use Rattle.lines.proofs.Groups.{pair_back, access_back}
 use Rattle.fields.proofs.NameFields.{name_short}
 use Rattle.lines.proofs.OneStrategy.{name_back}
 use Rattle.lines.proofs.Pieces.{first_at, second_at, third_at, last_at, behind_three}
@@ -47,17 +48,16 @@ give_back g fa fb fc =
     let sign : sign_in (at_columns 18 18 X) 18 ≡ Ok g.sign =
     ap (λ l. sign_in l 18) (sign_column g.account g.item g.right 32 y fa fb fc) ∙ sign_back g.sign 18 in
     by_letter 71 X (long_triple g.account g.item g.right 32 y fa fb fc)
-    ∙ ap (λ r. raised (then r (λ t. then (sign_in (at_columns 18 18 X) 18) (λ s. Ok (Give (record { account = t.0; item = t.1; right = t.2; sign = s }))))))
-    (triple_back g.account g.item g.right y fa fb fc)
+    ∙ ap (λ r. raised (then r (λ t. then (sign_in (at_columns 18 18 X) 18) (λ s. Ok (Give (record { account = t.account; item = t.item; right = t.right; sign = s }))))))
+    (access_back g.account g.item g.right y fa fb fc)
     ∙ ap (λ r. raised (then r (λ s. Ok (Give (record { account = g.account; item = g.item; right = g.right; sign = s }))))) sign
 
 -- what W and Q share
-asked_back : (make : ℕ → ℕ → ℕ → Line) (a b c : ℕ) → FitsFive a → FitsFive b → FitsFive c
-    → raised (then (triple_of (five a ++ (five b ++ (five c ++ blanks 2)))) (λ t. then (blanks_from 18 (at_columns 18 18 (five a ++ (five b ++ (five c ++ blanks 2))))) (λ _. Ok (make t.0 t.1 t.2)))) ≡ Ok (make a b c)
-asked_back make a b c fa fb fc =
-    let X = five a ++ (five b ++ (five c ++ blanks 2)) in
-    ap (λ r. raised (then r (λ t. then (blanks_from 18 (at_columns 18 18 X)) (λ _. Ok (make t.0 t.1 t.2))))) (triple_back a b c 32 fa fb fc)
-    ∙ ap (λ l. raised (then (blanks_from 18 l) (λ _. Ok (make a b c)))) (sign_column a b c 32 32 fa fb fc)
+alone_back : (a : Access) → FitsFive a.account → FitsFive a.item → FitsFive a.right → access_alone_of (five a.account ++ (five a.item ++ (five a.right ++ blanks 2))) ≡ Ok a
+alone_back a fa fb fc =
+    let X = five a.account ++ (five a.item ++ (five a.right ++ blanks 2)) in
+    ap (λ r. then r (λ t. then (blanks_from 18 (at_columns 18 18 X)) (λ _. Ok t))) (access_back a.account a.item a.right 32 fa fb fc)
+    ∙ ap (λ l. then (blanks_from 18 l) (λ _. Ok a)) (sign_column a.account a.item a.right 32 32 fa fb fc)
 
 equip_back : (item : ℕ) (first second : Option ℕ) → FitsFive item → ContainersFit first second → line_of (written (Equip item first second)) ≡ Ok (Equip item first second)
 equip_back item first second fi fit =
@@ -92,8 +92,12 @@ read_back (Join a b) h =
 read_back (Leave a b) h =
     by_letter 76 _ (long_pair a b h.0 h.1) ∙ ap (λ r. raised (then r (λ p. Ok (Leave p.0 p.1)))) (pair_back a b h.0 h.1)
 read_back (Give g) h = give_back g h.0 h.1 h.2
-read_back (Withdraw a b c) h = by_letter 87 _ (long_triple a b c 32 32 h.0 h.1 h.2) ∙ asked_back Withdraw a b c h.0 h.1 h.2
-read_back (Ask a b c) h = by_letter 81 _ (long_triple a b c 32 32 h.0 h.1 h.2) ∙ asked_back Ask a b c h.0 h.1 h.2
+read_back (Withdraw a) h =
+    by_letter 87 _ (long_triple a.account a.item a.right 32 32 h.0 h.1 h.2)
+    ∙ ap (λ r. raised (then r (λ t. Ok (Withdraw t)))) (alone_back a h.0 h.1 h.2)
+read_back (Ask a) h =
+    by_letter 81 _ (long_triple a.account a.item a.right 32 32 h.0 h.1 h.2)
+    ∙ ap (λ r. raised (then r (λ t. Ok (Ask t)))) (alone_back a h.0 h.1 h.2)
 read_back (Equip item first second) h = equip_back item first second h.0 h.1
 read_back (Choose s) h = choose_back s
 

@@ -3,17 +3,18 @@ use Rattle.std.proofs.Common.{◌≡◌, ℕ, cond, eqb, List, [], ◌∷◌, �
 use Rattle.std.proofs.lemmas.Bool.{cases_Bool, cond-true, cond-false, eqb-true}
 use Rattle.strategies.specs.Names.{name_of, number_of}
 use Rattle.fields.specs.declared.faults.FieldFault.{FieldFault}
+use Rattle.model.specs.declared.access.Access.{Access}
 use Rattle.lines.specs.declared.faults.LineFault.{LineFault}
 use Rattle.lines.specs.declared.line.Line.{Line}
-use Rattle.lines.specs.declared.line.Line.TheVariants.{Join, Leave}
+use Rattle.lines.specs.declared.line.Line.TheVariants.{Join, Leave, Withdraw, Ask}
 use Rattle.fields.specs.Checks.{number_in, blanks_from, sign_in, name_in}
-use Rattle.lines.specs.Lines.{at_columns, raised, pair_of, triple_of, containers_of, join_of, leave_of, give_of, withdraw_of, ask_of, equip_of, choose_of, command_of, line_of}
+use Rattle.lines.specs.Lines.{at_columns, raised, pair_of, access_of, access_alone_of, containers_of, join_of, leave_of, give_of, withdraw_of, ask_of, equip_of, choose_of, command_of, line_of}
 use Rattle.fields.specs.Spelling.{right_justified}
 use Rattle.lines.specs.Writing.{blanks, five, sign_byte, written, Writable, FitsFive}
 use Rattle.fields.proofs.Blanks.{no_ok}
 use Rattle.lines.proofs.Columns.{five_only, sign_only}
 use Rattle.lines.proofs.Containers.{containers_only}
-use Rattle.lines.proofs.Groups.{then_ok, ok_same, blank_columns, pair_only, triple_only}
+use Rattle.lines.proofs.Groups.{then_ok, ok_same, blank_columns, pair_only, access_only}
 use Rattle.lines.proofs.OneStrategy.{name_only}
 use Rattle.lines.proofs.Pieces.{wide, pieces_triple, pieces_name, one_byte}
 
@@ -37,39 +38,42 @@ leave_one X l long e =
     let told = pair_only X p.0 long p.1 in
     subst (One 76 X) (ok_same p.2) ((told.0, told.1), ap (λ x. 76 ∷ x) told.2)
 
--- what W and Q share: three numbers and two blanks
-blank_triple : (X : List ℕ) (r : ℕ × ℕ × ℕ) (u : Unit {0}) → length X ≡ 17 → triple_of X ≡ Ok r → blanks_from 18 (at_columns 18 18 X) ≡ Ok u
-    → (FitsFive r.0 × FitsFive r.1 × FitsFive r.2) × (X ≡ five r.0 ++ (five r.1 ++ (five r.2 ++ blanks 2)))
-blank_triple X r u long e b =
-    let told = triple_only X r long e in
-    let blank = blank_columns 18 1 (at_columns 18 18 X) (wide 16 1 X (omega arith)) b in
-    ((told.0, told.1, told.2), told.3 ∙ ap (λ y. five r.0 ++ (five r.1 ++ (five r.2 ++ (32 ∷ y)))) blank)
+-- what W and Q share: an access and two blanks
+alone_only : (X : List ℕ) (r : Access) → length X ≡ 17 → access_alone_of X ≡ Ok r
+    → (FitsFive r.account × FitsFive r.item × FitsFive r.right) × (X ≡ five r.account ++ (five r.item ++ (five r.right ++ blanks 2)))
+alone_only X r long e =
+    let p = then_ok (access_of X) _ r e in
+    let b = then_ok (blanks_from 18 (at_columns 18 18 X)) _ r p.2 in
+    let told = access_only X p.0 long p.1 in
+    let blank = blank_columns 18 1 (at_columns 18 18 X) (wide 16 1 X (omega arith)) b.1 in
+    subst
+    (λ (r : Access). (FitsFive r.account × FitsFive r.item × FitsFive r.right) × (X ≡ five r.account ++ (five r.item ++ (five r.right ++ blanks 2))))
+    (ok_same b.2)
+    ((told.0, told.1, told.2), told.3 ∙ ap (λ y. five p.0.account ++ (five p.0.item ++ (five p.0.right ++ (32 ∷ y)))) blank)
 
 withdraw_one : (X : List ℕ) (l : Line) → length X ≡ 17 → raised (withdraw_of X) ≡ Ok l → One 87 X l
 withdraw_one X l long e =
-    let p = then_ok (triple_of X) _ l (raised_ok (withdraw_of X) l e) in
-    let b = then_ok (blanks_from 18 (at_columns 18 18 X)) _ l p.2 in
-    let told = blank_triple X p.0 b.0 long p.1 b.1 in
-    subst (One 87 X) (ok_same b.2) (told.0, ap (λ x. 87 ∷ x) told.1)
+    let p = then_ok (access_alone_of X) (λ t. Ok (Withdraw t)) l (raised_ok (withdraw_of X) l e) in
+    let told = alone_only X p.0 long p.1 in
+    subst (One 87 X) (ok_same p.2) (told.0, ap (λ x. 87 ∷ x) told.1)
 
 ask_one : (X : List ℕ) (l : Line) → length X ≡ 17 → raised (ask_of X) ≡ Ok l → One 81 X l
 ask_one X l long e =
-    let p = then_ok (triple_of X) _ l (raised_ok (ask_of X) l e) in
-    let b = then_ok (blanks_from 18 (at_columns 18 18 X)) _ l p.2 in
-    let told = blank_triple X p.0 b.0 long p.1 b.1 in
-    subst (One 81 X) (ok_same b.2) (told.0, ap (λ x. 81 ∷ x) told.1)
+    let p = then_ok (access_alone_of X) (λ t. Ok (Ask t)) l (raised_ok (ask_of X) l e) in
+    let told = alone_only X p.0 long p.1 in
+    subst (One 81 X) (ok_same p.2) (told.0, ap (λ x. 81 ∷ x) told.1)
 
 give_one : (X : List ℕ) (l : Line) → length X ≡ 17 → raised (give_of X) ≡ Ok l → One 71 X l
 give_one X l long e =
-    let p = then_ok (triple_of X) _ l (raised_ok (give_of X) l e) in
+    let p = then_ok (access_of X) _ l (raised_ok (give_of X) l e) in
     let r = p.0 in
     let s = then_ok (sign_in (at_columns 18 18 X) 18) _ l p.2 in
-    let told = triple_only X r long p.1 in
+    let told = access_only X r long p.1 in
     let byte = one_byte (at_columns 18 18 X) (wide 16 1 X (omega arith)) in
     let sign = sign_only (get_or (at_columns 18 18 X) 0 0) 18 s.0 (ap (λ y. sign_in y 18) (sym byte) ∙ s.1) in
     let last : at_columns 18 18 X ≡ sign_byte s.0 ∷ [] = byte ∙ ap (λ y. y ∷ []) sign in
     subst (One 71 X) (ok_same s.2)
-    ((told.0, told.1, told.2), ap (λ x. 71 ∷ x) (told.3 ∙ ap (λ y. five r.0 ++ (five r.1 ++ (five r.2 ++ (32 ∷ y)))) last))
+    ((told.0, told.1, told.2), ap (λ x. 71 ∷ x) (told.3 ∙ ap (λ y. five r.account ++ (five r.item ++ (five r.right ++ (32 ∷ y)))) last))
 
 equip_one : (X : List ℕ) (l : Line) → length X ≡ 17 → raised (equip_of X) ≡ Ok l → One 69 X l
 equip_one X l long e =

@@ -2,6 +2,7 @@
 use Rattle.std.specs.Prelude.{ℕ, ◌+◌, ◌-◌, cond, not, ◌&&◌, List, [], ◌∷◌, length, take, drop, is_some, Ok, Err, Option, Result, ◌==◌}
 use Rattle.fields.specs.declared.faults.FieldCause.TheVariants.{Number}
 use Rattle.fields.specs.declared.faults.FieldFault.{FieldFault}
+use Rattle.model.specs.declared.access.Access.{Access}
 use Rattle.lines.specs.declared.faults.LineFault.{LineFault}
 use Rattle.lines.specs.declared.faults.LineFault.TheVariants.{Length, Letter, Field}
 use Rattle.lines.specs.declared.line.Line.{Line}
@@ -24,13 +25,17 @@ pair_of rest =
     then (number_in (at_columns 7 11 rest) 7) (λ b.
     then (blanks_from 12 (at_columns 12 18 rest)) (λ _. Ok (a, b))))
 
--- three numbers, and a blank behind them
-abbrev pub triple_of : List ℕ → Result (ℕ × ℕ × ℕ) FieldFault
-triple_of rest =
+-- an account, an item and a right, and a blank behind them
+abbrev pub access_of : List ℕ → Result Access FieldFault
+access_of rest =
     then (number_in (at_columns 2 6 rest) 2) (λ a.
     then (number_in (at_columns 7 11 rest) 7) (λ b.
     then (number_in (at_columns 12 16 rest) 12) (λ c.
-    then (blanks_from 17 (at_columns 17 17 rest)) (λ _. Ok (a, b, c)))))
+    then (blanks_from 17 (at_columns 17 17 rest)) (λ _. Ok (record { account = a; item = b; right = c })))))
+
+-- an access, and nothing behind it
+abbrev pub access_alone_of : List ℕ → Result Access FieldFault
+access_alone_of rest = then (access_of rest) (λ t. then (blanks_from 18 (at_columns 18 18 rest)) (λ _. Ok t))
 
 -- a second container may not stand behind a blank first
 abbrev pub containers_of : List ℕ → Result (Option ℕ × Option ℕ) FieldFault
@@ -51,18 +56,16 @@ leave_of rest = then (pair_of rest) (λ p. Ok (Leave p.0 p.1))
 -- G: the sign stands in column 18
 abbrev pub give_of : List ℕ → Result Line FieldFault
 give_of rest =
-    then (triple_of rest) (λ t. then (sign_in (at_columns 18 18 rest) 18) (λ s.
-    Ok (Give (record { account = t.0; item = t.1; right = t.2; sign = s }))))
+    then (access_of rest) (λ t. then (sign_in (at_columns 18 18 rest) 18) (λ s.
+    Ok (Give (record { account = t.account; item = t.item; right = t.right; sign = s }))))
 
 -- W
 abbrev pub withdraw_of : List ℕ → Result Line FieldFault
-withdraw_of rest =
-    then (triple_of rest) (λ t. then (blanks_from 18 (at_columns 18 18 rest)) (λ _. Ok (Withdraw t.0 t.1 t.2)))
+withdraw_of rest = then (access_alone_of rest) (λ t. Ok (Withdraw t))
 
 -- Q
 abbrev pub ask_of : List ℕ → Result Line FieldFault
-ask_of rest =
-    then (triple_of rest) (λ t. then (blanks_from 18 (at_columns 18 18 rest)) (λ _. Ok (Ask t.0 t.1 t.2)))
+ask_of rest = then (access_alone_of rest) (λ t. Ok (Ask t))
 
 -- E
 abbrev pub equip_of : List ℕ → Result Line FieldFault

@@ -30,8 +30,8 @@ abbrev pub written : Line → List ℕ
 written (Join group member) = 74 ∷ (five group ++ (five member ++ blanks 7))
 written (Leave group member) = 76 ∷ (five group ++ (five member ++ blanks 7))
 written (Give g) = 71 ∷ (five g.account ++ (five g.item ++ (five g.right ++ (32 ∷ sign_byte g.sign ∷ []))))
-written (Withdraw account item right) = 87 ∷ (five account ++ (five item ++ (five right ++ blanks 2)))
-written (Ask account item right) = 81 ∷ (five account ++ (five item ++ (five right ++ blanks 2)))
+written (Withdraw a) = 87 ∷ (five a.account ++ (five a.item ++ (five a.right ++ blanks 2)))
+written (Ask a) = 81 ∷ (five a.account ++ (five a.item ++ (five a.right ++ blanks 2)))
 written (Equip item first second) = 69 ∷ (five item ++ (five_or_blank first ++ (five_or_blank second ++ blanks 2)))
 written (Choose s) = 83 ∷ (blanks 11 ++ right_justified 6 (name_of (number_of s)))
 
@@ -51,7 +51,7 @@ abbrev pub Writable : Line → Type 0
 Writable (Join group member) = FitsFive group × FitsFive member
 Writable (Leave group member) = FitsFive group × FitsFive member
 Writable (Give g) = FitsFive g.account × FitsFive g.item × FitsFive g.right
-Writable (Withdraw account item right) = FitsFive account × FitsFive item × FitsFive right
-Writable (Ask account item right) = FitsFive account × FitsFive item × FitsFive right
+Writable (Withdraw a) = FitsFive a.account × FitsFive a.item × FitsFive a.right
+Writable (Ask a) = FitsFive a.account × FitsFive a.item × FitsFive a.right
 Writable (Equip item first second) = FitsFive item × ContainersFit first second
 Writable (Choose s) = Unit {0}

@@ -1,18 +1,19 @@
 //! Reads a line: the letter first, and then the columns behind it, from the left.
 
-ghost use Rattle.std.specs.Prelude.{◌≡◌, ◌+◌, ◌-◌, ◌≤◌, length};
+ghost use Rattle.std.specs.Prelude.{◌≡◌, ◌≤◌};
 ghost use Rattle.lines.specs.Laws.{OneSpelling};
-ghost use Rattle.lines.specs.Lines.{at_columns, pair_of, triple_of, containers_of, join_of, leave_of, give_of, withdraw_of, ask_of, equip_of, choose_of, command_of, line_of};
+ghost use Rattle.lines.specs.Lines.{at_columns, pair_of, access_of, access_alone_of, containers_of, give_of, equip_of, choose_of, command_of, line_of};
 
 use crate::faults::LineFault;
 use crate::line::Line;
 use fields::faults::{FieldCause, FieldFault};
 use fields::field::Field;
+use model::access::Access;
 use model::grant::Grant;
 
 // The columns `from` to `to` of a line, of which `rest` begins at column 2.
-fn columns(rest: &[u8], from: u32, to: u32) -> Field<'_>
-    requires { (2 ≤ from) × ((from ≤ to) × ((to ≤ 18) × (length rest.now ≡ 17))) }
+fn columns(rest: &[u8; 17], from: u32, to: u32) -> Field<'_>
+    requires { (2 ≤ from) × ((from ≤ to) × (to ≤ 18)) }
     ensures value { result.bytes.now ≡ at_columns from to rest.now }
     ensures column { result.column ≡ from }
 {
@@ -23,8 +24,7 @@ fn columns(rest: &[u8], from: u32, to: u32) -> Field<'_>
 }
 
 // Two numbers, and blanks behind them.
-fn pair(rest: &[u8]) -> Result<(u32, u32), FieldFault>
-    requires { length rest.now ≡ 17 }
+fn pair(rest: &[u8; 17]) -> Result<(u32, u32), FieldFault>
     ensures answer { result ≡ pair_of rest.now }
 {
     let first = columns(rest, 2, 6).number()?;
@@ -33,21 +33,32 @@ fn pair(rest: &[u8]) -> Result<(u32, u32), FieldFault>
     Ok((first, second))
 }
 
-// Three numbers, and a blank behind them.
-fn triple(rest: &[u8]) -> Result<(u32, u32, u32), FieldFault>
-    requires { length rest.now ≡ 17 }
-    ensures answer { result ≡ triple_of rest.now }
+// An account, an item and a right, and a blank behind them.
+fn access(rest: &[u8; 17]) -> Result<Access, FieldFault>
+    ensures answer { result ≡ access_of rest.now }
 {
-    let first = columns(rest, 2, 6).number()?;
-    let second = columns(rest, 7, 11).number()?;
-    let third = columns(rest, 12, 16).number()?;
+    let account = columns(rest, 2, 6).number()?;
+    let item = columns(rest, 7, 11).number()?;
+    let right = columns(rest, 12, 16).number()?;
     columns(rest, 17, 17).expect_blank()?;
-    Ok((first, second, third))
+    Ok(Access {
+        account,
+        item,
+        right,
+    })
+}
+
+// An access, and nothing behind it.
+fn access_alone(rest: &[u8; 17]) -> Result<Access, FieldFault>
+    ensures answer { result ≡ access_alone_of rest.now }
+{
+    let access = access(rest)?;
+    columns(rest, 18, 18).expect_blank()?;
+    Ok(access)
 }
 
 // The containers of an item: both, the first alone, or none.
-fn containers(rest: &[u8]) -> Result<(Option<u32>, Option<u32>), FieldFault>
-    requires { length rest.now ≡ 17 }
+fn containers(rest: &[u8; 17]) -> Result<(Option<u32>, Option<u32>), FieldFault>
     ensures answer { result ≡ containers_of rest.now }
 {
     let before = columns(rest, 7, 11);
@@ -60,27 +71,15 @@ fn containers(rest: &[u8]) -> Result<(Option<u32>, Option<u32>), FieldFault>
     Ok((first, second))
 }
 
-fn join(rest: &[u8]) -> Result<Line, FieldFault>
-    requires { length rest.now ≡ 17 }
-    ensures answer { result ≡ join_of rest.now }
-{
-    let (group, member) = pair(rest)?;
-    Ok(Line::Join { group, member })
-}
-
-fn leave(rest: &[u8]) -> Result<Line, FieldFault>
-    requires { length rest.now ≡ 17 }
-    ensures answer { result ≡ leave_of rest.now }
-{
-    let (group, member) = pair(rest)?;
-    Ok(Line::Leave { group, member })
-}
-
-fn give(rest: &[u8]) -> Result<Line, FieldFault>
-    requires { length rest.now ≡ 17 }
+// A grant: an access, a blank, and a sign.
+fn give(rest: &[u8; 17]) -> Result<Line, FieldFault>
     ensures answer { result ≡ give_of rest.now }
 {
-    let (account, item, right) = triple(rest)?;
+    let Access {
+        account,
+        item,
+        right,
+    } = access(rest)?;
     let sign = columns(rest, 18, 18).sign()?;
     Ok(Line::Give {
         grant: Grant {
@@ -92,34 +91,8 @@ fn give(rest: &[u8]) -> Result<Line, FieldFault>
     })
 }
 
-fn withdraw(rest: &[u8]) -> Result<Line, FieldFault>
-    requires { length rest.now ≡ 17 }
-    ensures answer { result ≡ withdraw_of rest.now }
-{
-    let (account, item, right) = triple(rest)?;
-    columns(rest, 18, 18).expect_blank()?;
-    Ok(Line::Withdraw {
-        account,
-        item,
-        right,
-    })
-}
-
-fn ask(rest: &[u8]) -> Result<Line, FieldFault>
-    requires { length rest.now ≡ 17 }
-    ensures answer { result ≡ ask_of rest.now }
-{
-    let (account, item, right) = triple(rest)?;
-    columns(rest, 18, 18).expect_blank()?;
-    Ok(Line::Ask {
-        account,
-        item,
-        right,
-    })
-}
-
-fn equip(rest: &[u8]) -> Result<Line, FieldFault>
-    requires { length rest.now ≡ 17 }
+// An item and its containers, and blanks behind them.
+fn equip(rest: &[u8; 17]) -> Result<Line, FieldFault>
     ensures answer { result ≡ equip_of rest.now }
 {
     let item = columns(rest, 2, 6).number()?;
@@ -132,8 +105,8 @@ fn equip(rest: &[u8]) -> Result<Line, FieldFault>
     })
 }
 
-fn choose(rest: &[u8]) -> Result<Line, FieldFault>
-    requires { length rest.now ≡ 17 }
+// Blanks, and the name of a strategy behind them.
+fn choose(rest: &[u8; 17]) -> Result<Line, FieldFault>
     ensures answer { result ≡ choose_of rest.now }
 {
     columns(rest, 2, 12).expect_blank()?;
@@ -142,16 +115,25 @@ fn choose(rest: &[u8]) -> Result<Line, FieldFault>
 }
 
 // What the letter and the columns behind it say.
-fn command(letter: u8, rest: &[u8]) -> Result<Line, LineFault>
-    requires { length rest.now ≡ 17 }
+fn command(letter: u8, rest: &[u8; 17]) -> Result<Line, LineFault>
     ensures answer { result ≡ command_of letter rest.now }
 {
     let line = match letter {
-        b'J' => join(rest)?,
-        b'L' => leave(rest)?,
+        b'J' => {
+            let (group, member) = pair(rest)?;
+            Line::Join { group, member }
+        }
+        b'L' => {
+            let (group, member) = pair(rest)?;
+            Line::Leave { group, member }
+        }
         b'G' => give(rest)?,
-        b'W' => withdraw(rest)?,
-        b'Q' => ask(rest)?,
+        b'W' => Line::Withdraw {
+            access: access_alone(rest)?,
+        },
+        b'Q' => Line::Ask {
+            access: access_alone(rest)?,
+        },
         b'E' => equip(rest)?,
         b'S' => choose(rest)?,
         _ => return Err(LineFault::Letter),
@@ -166,8 +148,9 @@ pub fn read_line(line: &[u8]) -> Result<Line, LineFault>
     ensures answer { result ≡ line_of line.now }
     ensures spelling { OneSpelling }
 {
-    match line {
-        [letter, rest @ ..] if rest.len() == 17 => command(*letter, rest),
-        _ => Err(LineFault::Length),
-    }
+    let [letter, rest @ ..] = line else {
+        return Err(LineFault::Length);
+    };
+    let rest = <&[u8; 17]>::try_from(rest).map_err(|_| LineFault::Length)?;
+    command(*letter, rest)
 }

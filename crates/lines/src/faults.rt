@@ -6,7 +6,7 @@ ghost use Rattle.lines.specs.declared.faults.LineFault.TheVariants.{Field};
 use fields::faults::FieldFault;
 
 /// What is wrong with a line.
-#[derive(Clone, Copy, PartialEq, Eq)]
+#[derive(Clone, Copy, PartialEq, Eq, Debug)]
 pub enum LineFault {
     /// The line is not 18 bytes: 17, at column 1.
     Length,

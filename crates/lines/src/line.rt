@@ -1,10 +1,12 @@
 //! What one line of an access list says.
 
+use model::access::Access;
 use model::grant::Grant;
 use strategies::strategy::Strategy;
 
+// Not a Call: a line that asks names no strategy, and two kinds of line make no call of the book.
 /// One line of an access list, taken apart. Each is one call; the numbers have up to five digits.
-#[derive(Clone, Copy)]
+#[derive(Clone, Copy, PartialEq, Eq, Debug)]
 pub enum Line {
     /// `J`: make `member` a member of `group`.
     Join {
@@ -20,17 +22,13 @@ pub enum Line {
     Give {
         grant: Grant,
     },
-    /// `W`: take back the grant for the account, the item and the right.
+    /// `W`: take back the grant for the access.
     Withdraw {
-        account: u32,
-        item: u32,
-        right: u32,
+        access: Access,
     },
     /// `Q`: may the account use the right on the item?
     Ask {
-        account: u32,
-        item: u32,
-        right: u32,
+        access: Access,
     },
     /// `E`: put the item behind the others of the equipment table, in no, one or two containers.
     Equip {

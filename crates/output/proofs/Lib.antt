@@ -1,1 +1,1 @@
-mod Digits
+mod Columns

@@ -4,11 +4,11 @@ use lines::faults::LineFault;
 use strategies::marks::Sign;
 
 /// What a line of an access list came to.
-#[derive(Clone, Copy)]
+#[derive(Clone, Copy, PartialEq, Eq, Debug)]
 pub enum Outcome {
     /// The call was accepted, and gives nothing.
     Done,
-    /// The call was refused with this number.
+    /// The call was refused with this number. It is any number, and no type of refusals: a caller may write what it read elsewhere.
     Refused {
         number: u32,
     },

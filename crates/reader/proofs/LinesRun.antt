@@ -1,10 +1,9 @@
 -- A list run line by line: what one line does to the output that is still to come. Assumes nothing.
-use Rattle.std.proofs.Common.{◌≡◌, ℕ, ◌+◌, ◌<◌, List, [], ◌∷◌, ◌++◌, length, Some, None, Ok, Err, Result, sym, refl, ap, ◌∙◌, ap₂, arith}
-use Rattle.reader.specs.declared.faults.ListFault.{ListFault}
+use Rattle.std.proofs.Common.{◌≡◌, ℕ, ◌+◌, List, [], ◌∷◌, ◌++◌, Some, None, Ok, Err, Result, sym, refl, ap, ◌∙◌, ap₂, arith}
 use Rattle.lines.specs.declared.line.Line.{Line}
 use Rattle.output.specs.declared.outcome.Outcome.{Outcome}
 use Rattle.output.specs.declared.outcome.Outcome.TheVariants.{Faulty}
-use Rattle.reader.specs.Lists.{first_said, one_more, said_behind, tail}
+use Rattle.reader.specs.Lists.{ListFault, first_said, one_more, said_behind, tail}
 use Rattle.output.specs.Output.{output_line}
 use Rattle.reader.specs.Sessions.{Session, lines_output, outcome_of, session_after}
 
@@ -28,9 +27,6 @@ is_fault (Err g ∷ rs) f e = let same : f ≡ g = cc in ap (λ (x : ListFault).
 pub counted : (n : ℕ) (ls : List (List ℕ)) (r : Result Line ListFault) (rs : List (Result Line ListFault)) → said_behind n ls ≡ r ∷ rs → one_more n ls ≡ n + 1
 counted n [] r rs e = let wrong : ◌≡◌ {A = ℕ} 0 1 = cc in absurd (omega arith)
 counted n (l ∷ ls) r rs e = refl
-
-pub fewer : (rs after : List (Result Line ListFault)) (r : Result Line ListFault) → rs ≡ r ∷ tail rs → after ≡ tail rs → length after < length rs
-fewer rs after r e a = let long = ap length e in let short = ap length a in omega arith
 
 pub none_output : (n : ℕ) (S : Session) (rs : List (Result Line ListFault)) → rs ≡ [] → lines_output n S rs ≡ []
 unfolding lines_output

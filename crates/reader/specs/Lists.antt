@@ -1,25 +1,15 @@
 -- What an access list says: its lines, one after the other. Assumes nothing.
-use Rattle.std.specs.Prelude.{ℕ, ◌+◌, cond, List, [], ◌∷◌, drop, Some, None, Ok, Err, Option, Result, ◌==◌}
+use Rattle.std.specs.Prelude.{ℕ, ◌+◌, List, [], ◌∷◌, Some, None, Ok, Err, Option, Result}
 use Rattle.lines.specs.declared.faults.LineFault.{LineFault}
-use Rattle.reader.specs.declared.faults.ListFault.{ListFault}
+use Rattle.texts.specs.declared.at_line.AtLine.{AtLine}
+use Rattle.texts.specs.Lines.{lines_of}
 use Rattle.lines.specs.declared.line.Line.{Line}
 use Rattle.reader.specs.declared.reader.Reader.{Reader}
 use Rattle.lines.specs.Lines.{line_of}
 
--- a byte in front of the first line
-abbrev pub onto : ℕ → List (List ℕ) → List (List ℕ)
-onto c [] = (c ∷ []) ∷ []
-onto c (l ∷ ls) = (c ∷ l) ∷ ls
-
--- the text split at its line feeds, 10; the last line may lack one
-abbrev pub lines_of : List ℕ → List (List ℕ)
-lines_of [] = []
-lines_of (c ∷ cs) = cond (c == 10) ([] ∷ lines_of cs) (onto c (lines_of cs))
-
--- a fault with the number of its line
-abbrev pub with_number : ℕ → Result Line LineFault → Result Line (ℕ × LineFault)
-with_number n (Ok line) = Ok line
-with_number n (Err f) = Err (n, f)
+-- a line's fault, and the number of the line
+abbrev pub ListFault : Type 0
+ListFault = AtLine LineFault
 
 -- what the line with the number n says
 abbrev pub numbered : ℕ → Result Line LineFault → Result Line ListFault
@@ -37,7 +27,7 @@ list_of text = said_behind 0 (lines_of text)
 
 -- the lines that a reader has before it, and what they say
 abbrev pub lines_left : Reader → List (List ℕ)
-lines_left r = lines_of (drop r.at r.text.now)
+lines_left r = lines_of r.lines.rest.now
 
 abbrev pub unread : Reader → List (Result Line ListFault)
 unread r = said_behind r.line (lines_left r)

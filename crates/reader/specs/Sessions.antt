@@ -16,12 +16,11 @@ use Rattle.model.specs.Question.{asked}
 use Rattle.model.specs.Refusals.{refusal_number}
 use Rattle.model.specs.declared.answer.Answer.{Answer}
 use Rattle.model.specs.declared.refusal.Refusal.{Refusal}
-use Rattle.reader.specs.declared.faults.ListFault.{ListFault}
 use Rattle.lines.specs.declared.line.Line.{Line}
 use Rattle.lines.specs.declared.line.Line.TheVariants.{Join, Leave, Give, Withdraw, Ask, Equip, Choose}
 use Rattle.output.specs.declared.outcome.Outcome.{Outcome}
 use Rattle.output.specs.declared.outcome.Outcome.TheVariants.{Done, Refused, Faulty, Answered}
-use Rattle.reader.specs.Lists.{list_of}
+use Rattle.reader.specs.Lists.{ListFault, list_of}
 use Rattle.output.specs.Output.{output_line}
 
 -- what stands while a list is run: the book's model, the equipment, and the strategy of the questions that follow
@@ -42,26 +41,28 @@ started = record { model = just_made; equipment = no_items; strategy = prefer_mi
 abbrev pub plan_for : Items → ℕ → Items
 plan_for equipment right = cond (nat_lt right 4) equipment channels
 
--- a book of 32 accounts and room for 512 grants is run
+-- a call that gives nothing is done, or refused with the number of its refusal
+abbrev pub by_call : {R : Type 0} → (R → ℕ) → Result (Unit {0}) R → Outcome
+by_call number_of (Ok u) = Done
+by_call number_of (Err e) = Refused (number_of e)
+
 abbrev pub by_book : Result (Unit {0}) Refusal → Outcome
-by_book (Ok u) = Done
-by_book (Err e) = Refused (refusal_number e)
+by_book reply = by_call refusal_number reply
 
 abbrev pub by_equipment : Result (Unit {0}) EquipmentRefusal → Outcome
-by_equipment (Ok u) = Done
-by_equipment (Err e) = Refused (equipment_number e)
+by_equipment reply = by_call equipment_number reply
 
 abbrev pub by_question : Result Answer Refusal → Outcome
 by_question (Ok a) = Answered a.sign a.plus_total a.minus_total
 by_question (Err e) = Refused (refusal_number e)
 
--- what a line comes to
+-- what a line comes to; the book has 32 accounts and room for 512 grants
 abbrev pub outcome_of : Session → Line → Outcome
 outcome_of S (Join p c) = by_book (join_outcome 32 S.model p c)
 outcome_of S (Leave p c) = by_book (leave_outcome 32 S.model p c)
 outcome_of S (Give g) = by_book (give_outcome 32 512 S.model g.account g.item g.right)
-outcome_of S (Withdraw a i r) = by_book (withdraw_outcome 32 S.model a i r)
-outcome_of S (Ask a i r) = by_question (asked 32 S.model (plan_for S.equipment r) a i r S.strategy)
+outcome_of S (Withdraw a) = by_book (withdraw_outcome 32 S.model a.account a.item a.right)
+outcome_of S (Ask a) = by_question (asked 32 S.model (plan_for S.equipment a.right) a.account a.item a.right S.strategy)
 outcome_of S (Equip i x y) = by_equipment (add_answer S.equipment i x y)
 outcome_of S (Choose t) = Done
 
@@ -70,8 +71,8 @@ abbrev pub session_after : Session → Line → Session
 session_after S (Join p c) = record { model = joined 32 S.model p c; equipment = S.equipment; strategy = S.strategy }
 session_after S (Leave p c) = record { model = left 32 S.model p c; equipment = S.equipment; strategy = S.strategy }
 session_after S (Give g) = record { model = given 32 512 S.model g; equipment = S.equipment; strategy = S.strategy }
-session_after S (Withdraw a i r) = record { model = withdrawn 32 S.model a i r; equipment = S.equipment; strategy = S.strategy }
-session_after S (Ask a i r) = S
+session_after S (Withdraw a) = record { model = withdrawn 32 S.model a.account a.item a.right; equipment = S.equipment; strategy = S.strategy }
+session_after S (Ask a) = S
 session_after S (Equip i x y) = record { model = S.model; equipment = add_after S.equipment i x y; strategy = S.strategy }
 session_after S (Choose t) = record { model = S.model; equipment = S.equipment; strategy = t }
 

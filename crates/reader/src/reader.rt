@@ -1,15 +1,18 @@
 //! A reader over the text of an access list, which stays the caller's.
 
-ghost use Rattle.std.specs.Prelude.{◌≡◌, ◌≤◌, length};
+ghost use Rattle.std.specs.Prelude.{◌≡◌, ◌+◌, ◌≤◌, length};
+ghost use Rattle.texts.specs.Lines.{last_bytes, lines_of};
 
-/// The text of an access list, where its next line begins, and how many lines lie before that.
+use texts::Lines;
+
+/// The text of an access list, its lines that are still to be read, and how many were read. The lines to be read are those of the text's end.
 #[derive(Drop)]
 pub struct Reader<'a> {
     pub(crate) text: &'a [u8],
-    pub(crate) at: usize,
+    pub(crate) lines: Lines<'a>,
     pub(crate) line: usize,
-    ghost behind: { line ≤ at },
-    ghost within: { at ≤ length text.now },
+    ghost end: { lines.rest.now ≡ last_bytes (length lines.rest.now) text.now },
+    ghost within: { line + length (lines_of lines.rest.now) ≤ length text.now },
 }
 
 impl Reader<'_> {

@@ -1,94 +1,70 @@
 //! Runs a whole access list: a text in, the output bytes out.
 
-ghost use Rattle.std.specs.Prelude.{◌≡◌, ◌+◌, ◌<◌, [], ◌++◌, length, IfOk, MatchOption, OnSome};
-ghost use Rattle.book.specs.Books.{accounts_of, capacity_in};
-ghost use Rattle.reader.specs.Lists.{list_of, unread};
+ghost use Rattle.std.specs.Prelude.{◌≡◌, ◌<◌, [], ◌++◌, length, IfOk, MatchOption, OnSome};
+ghost use Rattle.reader.specs.Lists.{unread};
 ghost use Rattle.output.specs.Output.{Pushed, output_line};
 ghost use Rattle.reader.specs.Sessions.{lines_output, list_output, started};
-ghost use Rattle.reader.specs.Standing.{session};
+ghost use Rattle.reader.specs.Standing.{standing};
 
+use crate::acting::prefer_minus;
 use crate::reader::Reader;
-use crate::session::{act, prefer_minus};
+use crate::session::Session;
 use book::Book;
-use model::grant::Grant;
+use chains::LENGTHS;
+use model::grant::{Grant, UNWRITTEN};
 use output::outcome::Outcome;
 use output::pushing::push_line;
 use plans::Equipment;
+use records::MOST_GRANTS;
 use std::alloc::{AllocError, Global};
-use strategies::marks::Sign;
-use strategies::strategy::Strategy;
 
 /// No list is longer than this many bytes.
 pub const MOST_BYTES: usize = 57_000;
 
-// The number that a longer text is refused with.
+// A book here has so many accounts.
+const ACCOUNTS: usize = 32;
+
+// A table of them has so many counts: one for each pair of accounts and each length.
+const COUNTS: usize = ACCOUNTS * ACCOUNTS * LENGTHS;
+
+// The number that a longer text is refused with. A number alone: no call refuses so, and nothing else is told of it.
 const TOO_LONG: u32 = 21;
 
-// What lies in a record that was never written.
-const NO_GRANT: Grant = Grant {
-    account: 0,
-    item: 0,
-    right: 0,
-    sign: Sign::Plus,
-};
-
 // What the next line comes to, if there is one: its call is made, unless the line has a fault.
-fn run_line(
-    reader: &mut Reader,
-    book: &mut Book,
-    equipment: &mut Equipment,
-    strategy: &mut Strategy,
-) -> Option<Outcome>
-    requires accounts { accounts_of book.old ≡ 32 }
-    requires capacity { capacity_in book.old ≡ 512 }
-    ensures answer { MatchOption result (lines_output reader.old.line (session book.old equipment.old strategy.old) (unread reader.old) ≡ []) (λ o. lines_output reader.old.line (session book.old equipment.old strategy.old) (unread reader.old) ≡ output_line reader.new.line o ++ lines_output reader.new.line (session book.new equipment.new strategy.new) (unread reader.new)) }
+fn run_line(reader: &mut Reader, session: &mut Session) -> Option<Outcome>
+    ensures answer { MatchOption result (lines_output reader.old.line (standing session.old) (unread reader.old) ≡ []) (λ o. lines_output reader.old.line (standing session.old) (unread reader.old) ≡ output_line reader.new.line o ++ lines_output reader.new.line (standing session.new) (unread reader.new)) }
     ensures fewer { OnSome result (length (unread reader.new) < length (unread reader.old)) }
-    ensures accounts { accounts_of book.new ≡ 32 }
-    ensures capacity { capacity_in book.new ≡ 512 }
 {
     match reader.next() {
-        Ok(found) => match found {
-            None => None,
-            Some(line) => Some(act(book, equipment, strategy, line)),
-        },
-        Err(fault) => Some(Outcome::Faulty(fault.fault)),
+        Ok(None) => None,
+        Ok(Some(line)) => Some(session.act(line)),
+        Err(at) => Some(Outcome::Faulty(at.fault)),
     }
 }
 
 // Runs the lines that the reader has before it, and writes what each comes to.
 fn run_lines(
     reader: &mut Reader,
-    book: &mut Book,
-    equipment: &mut Equipment,
-    strategy: &mut Strategy,
+    session: &mut Session,
     out: &mut Vec<u8>,
 ) -> Result<(), AllocError>
-    requires accounts { accounts_of book.old ≡ 32 }
-    requires capacity { capacity_in book.old ≡ 512 }
-    ensures { Pushed result out.old.items out.new.items (lines_output reader.old.line (session book.old equipment.old strategy.old) (unread reader.old)) }
+    ensures { Pushed result out.old.items out.new.items (lines_output reader.old.line (standing session.old) (unread reader.old)) }
 {
-    while let Some(outcome) = run_line(reader, book, equipment, strategy) {
+    while let Some(outcome) = run_line(reader, session) {
         push_line(out, reader.line(), outcome)?;
     }
     Ok(())
 }
 
-// Runs the list over memory for 32 accounts and 512 grants.
-fn run_over(
-    text: &[u8],
-    counts: &mut [u32],
-    records: &mut [Grant],
-    out: &mut Vec<u8>,
-) -> Result<(), AllocError>
-    requires counts { length counts.old ≡ 8192 }
-    requires records { length records.old ≡ 512 }
-    ensures { Pushed result out.old.items out.new.items (lines_output 0 started (list_of text.now)) }
+// What stands before the first line, in memory for 32 accounts and 512 grants.
+fn start<'a>(counts: &'a mut [u32; COUNTS], records: &'a mut [Grant; MOST_GRANTS]) -> Session<'a>
+    ensures { standing result ≡ started }
 {
-    let mut book = Book::make(counts, records);
-    let mut reader = Reader::new(text);
-    let mut equipment = Equipment::new();
-    let mut strategy = prefer_minus();
-    run_lines(&mut reader, &mut book, &mut equipment, &mut strategy, out)
+    Session {
+        book: Book::make(counts, records),
+        equipment: Equipment::new(),
+        strategy: prefer_minus(),
+    }
 }
 
 /// Runs an access list and gives its output, a line for each line of the list.
@@ -104,8 +80,9 @@ pub fn run_list(text: &[u8], heap: Global) -> Result<Vec<u8>, AllocError>
         push_line(&mut out, 0, Outcome::Refused { number: TOO_LONG })?;
         return Ok(out);
     }
-    let mut counts = [0; 8192];
-    let mut records = [NO_GRANT; 512];
-    run_over(text, &mut counts, &mut records, &mut out)?;
+    let mut counts = [0; COUNTS];
+    let mut records = [UNWRITTEN; MOST_GRANTS];
+    let mut session = start(&mut counts, &mut records);
+    run_lines(&mut Reader::new(text), &mut session, &mut out)?;
     Ok(out)
 }

@@ -1,13 +1,13 @@
 //! Lines with a fault: each fault at each column that it can have.
 
 use lines::read_line;
+use numbered::Numbered;
 
-// The number and the column of a line's fault; zeros where it has none.
-fn fault(line: &[u8]) -> (u32, u32) {
-    match read_line(line) {
-        Ok(_) => (0, 0),
-        Err(fault) => (fault.number(), fault.column()),
-    }
+// The number and the column of a line's fault, if it has one.
+fn fault(line: &[u8]) -> Option<(u32, u32)> {
+    read_line(line)
+        .err()
+        .map(|fault| (fault.number(), fault.column()))
 }
 
 const NUMBERS: [(&[u8], u32); 24] = [
@@ -69,16 +69,16 @@ const COLUMNS: [(&[u8], u32); 26] = [
 #[test]
 fn numbers(rt: HostRuntime) {
     for (line, column) in NUMBERS {
-        assert_eq!(rt; fault(line), (19, column));
+        assert_eq!(rt; fault(line), Some((19, column)));
     }
 }
 
 #[test]
 fn columns(rt: HostRuntime) {
     for (line, column) in COLUMNS {
-        assert_eq!(rt; fault(line), (20, column));
+        assert_eq!(rt; fault(line), Some((20, column)));
     }
-    assert_eq!(rt; fault(b"S          x   MP-"), (20, 12));
+    assert_eq!(rt; fault(b"S          x   MP-"), Some((20, 12)));
 }
 
 const OTHERS: [(&[u8], (u32, u32)); 16] = [
@@ -103,6 +103,6 @@ const OTHERS: [(&[u8], (u32, u32)); 16] = [
 #[test]
 fn others(rt: HostRuntime) {
     for (line, at) in OTHERS {
-        assert_eq!(rt; fault(line), at);
+        assert_eq!(rt; fault(line), Some(at));
     }
 }

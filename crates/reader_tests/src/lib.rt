@@ -4,8 +4,8 @@
 #[cfg(test)]
 mod faulty;
 #[cfg(test)]
+mod feeds;
+#[cfg(test)]
 mod runs;
 #[cfg(test)]
 mod says;
-#[cfg(test)]
-mod texts;

@@ -56,9 +56,7 @@ fn runs(rt: HostRuntime) -> Result<(), Fail> {
 #[test]
 fn longest_list(rt: HostRuntime) -> Result<(), Fail> {
     let mut text = Vec::new(rt.alloc());
-    for _ in 0..57_000u32 {
-        text.push(b'\n')?;
-    }
+    text.resize(57_000, b'\n')?;
     let out = run_list(text.as_slice(), rt.alloc())?;
     assert!(rt; out.len() == 57_000 * 12);
     text.push(b'\n')?;

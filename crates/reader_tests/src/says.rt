@@ -4,7 +4,7 @@ use lines::line::Line;
 use lines::read_line;
 use strategies::marks::Sign;
 
-// What a line says, in numbers: which letter, and its fields; 100000 for a blank container.
+// What a line says, in numbers: which letter, and its fields; 100000 for a blank container. In numbers, since a constant cannot hold a strategy.
 fn said(line: Line) -> (u8, u32, u32, u32, u32) {
     match line {
         Line::Join { group, member } => (b'J', group, member, 0, 0),
@@ -16,16 +16,8 @@ fn said(line: Line) -> (u8, u32, u32, u32, u32) {
             };
             (b'G', grant.account, grant.item, grant.right, sign)
         }
-        Line::Withdraw {
-            account,
-            item,
-            right,
-        } => (b'W', account, item, right, 0),
-        Line::Ask {
-            account,
-            item,
-            right,
-        } => (b'Q', account, item, right, 0),
+        Line::Withdraw { access } => (b'W', access.account, access.item, access.right, 0),
+        Line::Ask { access } => (b'Q', access.account, access.item, access.right, 0),
         Line::Equip {
             item,
             first,
@@ -43,10 +35,7 @@ fn said(line: Line) -> (u8, u32, u32, u32, u32) {
 
 // What the line says, if it has no fault.
 fn read(line: &[u8]) -> Option<(u8, u32, u32, u32, u32)> {
-    match read_line(line) {
-        Ok(line) => Some(said(line)),
-        Err(_) => None,
-    }
+    read_line(line).ok().map(said)
 }
 
 const GOOD: [(&[u8], (u8, u32, u32, u32, u32)); 14] = [

@@ -4,6 +4,7 @@
 use reader::running::run_list;
 use std::io::{Read, Write};
 
+// Reads the list, runs it, and writes what it came to.
 fn run(rt: &HostRuntime) -> anyhow::Result<()> {
     let mut text = Vec::new(rt.alloc());
     rt.stdin().read_to_end(&mut text)?;
@@ -12,6 +13,7 @@ fn run(rt: &HostRuntime) -> anyhow::Result<()> {
     Ok(())
 }
 
+// Runs the list, or ends in an error.
 fn main(rt: HostRuntime) -> anyhow::Result<()> {
     run(&rt)
 }

@@ -1,12 +1,10 @@
-use Rattle.std.proofs.Common.{rules}
-use Rattle.fields.proofs.Blanks.{blank_step, blank_stop, blank_end}
+use Rattle.std.proofs.Common.{◌∙◌}
+use Rattle.std.proofs.lemmas.List.{take_rest}
+use Rattle.fields.proofs.Blanks.{past_is}
 use Rattle.fields.proofs.reading.trim_blanks.Goals as goal
 
-pub loop-left-preserved : goal.loop-left-preserved
-loop-left-preserved c = search (rules, blank_step)
-
-pub returns-in_default : goal.returns-in_default
-returns-in_default c = search (rules, blank_end)
-
-pub returns-in_default-2 : goal.returns-in_default-2
-returns-in_default-2 c = search (rules, blank_stop)
+pub returns-clause-value : goal.returns-clause-value
+returns-clause-value c =
+    let told = c.leading_blanks.ensures in
+    take_rest c.args.bytes.now c.leading_blanks.result
+    ∙ past_is c.args.bytes.now c.leading_blanks.result (record { within = told.within; before = told.before; found = told.found })

@@ -1,20 +1,19 @@
-use Rattle.std.proofs.Common.{◌≡◌, Ok, Err, sym, ◌∙◌, arith, rules}
+use Rattle.std.proofs.Common.{◌≡◌, Ok, Err, ◌+◌}
 use Rattle.fields.specs.declared.faults.FieldCause.TheVariants.{Blank}
 use Rattle.fields.specs.Checks.{blanks_from, fault_of}
-use Rattle.fields.proofs.Blanks.{column_blank, column_filled, columns_end, told_filled}
+use Rattle.fields.proofs.Blanks.{filled_is, blank_is, told_filled}
 use Rattle.fields.proofs.field.Field.expect_blank.Goals as goal
 
-pub returns-then-b-ne32 : goal.returns-then-b-ne32
-returns-then-b-ne32 c =
-    let answer : Err (fault_of Blank c.loop-b.column) ≡ blanks_from c.args.self.column c.args.self.bytes.now = search (rules, column_filled) in
+pub returns-then-blanks-self : goal.returns-then-blanks-self
+returns-then-blanks-self c =
+    let told = c.leading_blanks-blanks.ensures in
+    let answer : Err (fault_of Blank (c.args.self.column + c.leading_blanks-blanks.result)) ≡ blanks_from c.args.self.column c.args.self.bytes.now =
+    filled_is _ _ c.args.self.bytes.now (record { within = told.within; before = told.before; found = told.found }) c.if-blanks-self.true in
     record { answer = answer; first = told_filled _ _ _ answer }
-
-pub loop-b-preserved : goal.loop-b-preserved
-loop-b-preserved c =
-    let step = column_blank c.loop-b.column c.args.self.bytes.now c.loop-b.b-index (search rules) (search rules) in
-    (sym step ∙ c.loop-b.invariant.0, omega arith)
 
 pub returns : goal.returns
 returns c =
-    let answer : Ok tt ≡ blanks_from c.args.self.column c.args.self.bytes.now = search (rules, columns_end) in
+    let told = c.leading_blanks-blanks.ensures in
+    let answer : Ok tt ≡ blanks_from c.args.self.column c.args.self.bytes.now =
+    blank_is _ _ c.args.self.bytes.now (record { within = told.within; before = told.before; found = told.found }) c.if-blanks-self.false in
     record { answer = answer; first = told_filled _ _ _ answer }
