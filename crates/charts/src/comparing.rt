@@ -1,122 +1,71 @@
 //! What the book holds and tells, compared number by number with what the lister says.
 
+use crate::stop::{Stop, unless_different};
 use crate::tally::Tally;
-use lister::lister::Lister;
+use lister::lister::{Counts, Lister};
 use model::answer::Answer;
 use model::grant::Grant;
-use std::alloc::AllocError;
-use strategies::marks::Sign;
 
-// The number at the place, or one that no count is.
-fn number_at(numbers: &[u32], place: usize) -> u64 {
-    match numbers.get(place) {
-        Some(number) => u64::from(*number),
-        None => u64::MAX,
-    }
-}
+/// How many counts the memory holds for each pair of accounts: of the lengths 0 to 7.
+const TOLD: usize = 8;
 
-// Compares the eight counts of a pair: those listed from `listed` on, and those told from `told` on.
-fn same_pair(
-    counts: &[u32],
-    listed: usize,
-    memory: &[u32],
-    told: usize,
-    tally: &mut Tally,
-) -> bool {
+// Compares the counts of all chains from one account: those listed, and those told.
+fn same_line(listed: &[Counts], told: &[u32], tally: &mut Tally) -> bool {
     let mut same = true;
-    for length in 0..8usize {
-        let ours = number_at(counts, listed.wrapping_add(length));
-        let theirs = number_at(memory, told.wrapping_add(length));
-        tally.largest_count = tally.largest_count.max(ours);
-        if !tally.same(ours, theirs) {
-            same = false;
+    for (ours, theirs) in listed.iter().zip(told.chunks(TOLD)) {
+        for count in ours.iter().take(TOLD) {
+            tally.largest_count = tally.largest_count.max(u64::from(*count));
         }
-    }
-    same
-}
-
-// Compares the counts of all chains from one account.
-fn same_line(
-    accounts: u32,
-    account: u32,
-    counts: &[u32],
-    memory: &[u32],
-    tally: &mut Tally,
-) -> bool {
-    let mut same = true;
-    for end in 0..accounts {
-        let pair = account.wrapping_mul(accounts).wrapping_add(end);
-        let listed = end.wrapping_mul(9) as usize;
-        let told = pair.wrapping_mul(8) as usize;
-        if !same_pair(counts, listed, memory, told, tally) {
-            same = false;
-        }
+        same &= tally.same_each(ours.as_slice(), theirs);
     }
     same
 }
 
 // Compares the numbers from a place on with what lay there.
 fn untouched(memory: &[u32], lent: &[u32], from: usize, tally: &mut Tally) -> bool {
-    let mut same = memory.len() == lent.len();
-    for place in from..lent.len() {
-        if !tally.same(number_at(lent, place), number_at(memory, place)) {
-            same = false;
-        }
+    match (lent.get(from..), memory.get(from..)) {
+        (Some(lay), Some(lies)) => tally.same_each(lay, lies) && memory.len() == lent.len(),
+        _ => false,
     }
-    same
 }
 
-/// Does the memory hold the counts of all chains, and behind them what lay there?
+/// Stops where the memory does not hold the counts of all chains, and behind them what lay there; all of it is compared.
 pub fn same_counts(
     lister: &Lister,
     memory: &[u32],
     lent: &[u32],
     tally: &mut Tally,
-) -> Result<bool, AllocError> {
-    let accounts = lister.accounts;
+) -> Result<(), Stop> {
+    let line = (lister.accounts as usize).wrapping_mul(TOLD);
+    let mut start = 0usize;
     let mut same = true;
-    for account in 0..accounts {
+    for account in 0..lister.accounts {
         let counts = lister.counted_from(account)?;
-        if !same_line(accounts, account, counts.as_slice(), memory, tally) {
-            same = false;
-        }
+        let end = start.wrapping_add(line);
+        same &= match memory.get(start..end) {
+            Some(told) => same_line(counts.as_slice(), told, tally),
+            None => false,
+        };
+        start = end;
     }
-    let size = accounts.wrapping_mul(accounts).wrapping_mul(8) as usize;
-    Ok(untouched(memory, lent, size, tally) && same)
+    unless_different(untouched(memory, lent, start, tally) && same)
 }
 
-fn sign_number(sign: Sign) -> u64 {
-    match sign {
-        Sign::Plus => 0,
-        Sign::Minus => 1,
-    }
+// Are the four numbers of both grants the same?
+fn same_grant(listed: &Grant, told: &Grant, tally: &mut Tally) -> bool {
+    tally.same_each(numbers_of(listed).as_slice(), numbers_of(told).as_slice())
 }
 
-fn same_grant(listed: Grant, told: Grant, tally: &mut Tally) -> bool {
-    let account = tally.same(u64::from(listed.account), u64::from(told.account));
-    let item = tally.same(u64::from(listed.item), u64::from(told.item));
-    let right = tally.same(u64::from(listed.right), u64::from(told.right));
-    let sign = tally.same(sign_number(listed.sign), sign_number(told.sign));
-    account && item && right && sign
+// The four numbers of a grant.
+fn numbers_of(grant: &Grant) -> [u32; 4] {
+    [grant.account, grant.item, grant.right, grant.sign as u32]
 }
 
 /// Are the lists of grants the same, one by one?
 pub fn same_grants(listed: &[Grant], told: &[Grant], tally: &mut Tally) -> bool {
     let mut same = tally.same(listed.len() as u64, told.len() as u64);
-    for (ours, theirs) in listed.iter().zip(told.iter()) {
-        if !same_grant(*ours, *theirs, tally) {
-            same = false;
-        }
-    }
-    same
-}
-
-fn same_distances(listed: &[u64; 15], told: &[u64; 15], tally: &mut Tally) -> bool {
-    let mut same = true;
-    for distance in 0..15usize {
-        if !tally.same(listed[distance], told[distance]) {
-            same = false;
-        }
+    for (ours, theirs) in listed.iter().zip(told) {
+        same &= same_grant(ours, theirs, tally);
     }
     same
 }
@@ -125,10 +74,10 @@ fn same_distances(listed: &[u64; 15], told: &[u64; 15], tally: &mut Tally) -> bo
 pub fn same_answer(listed: &Answer, told: &Answer, tally: &mut Tally) -> bool {
     let total = listed.plus_total.max(listed.minus_total);
     tally.largest_total = tally.largest_total.max(total);
-    let sign = tally.same(sign_number(listed.sign), sign_number(told.sign));
-    let plus = same_distances(&listed.plus, &told.plus, tally);
-    let minus = same_distances(&listed.minus, &told.minus, tally);
-    let default = same_distances(&listed.default, &told.default, tally);
+    let sign = tally.same(u64::from(listed.sign as u32), u64::from(told.sign as u32));
+    let plus = tally.same_each(listed.plus.as_slice(), told.plus.as_slice());
+    let minus = tally.same_each(listed.minus.as_slice(), told.minus.as_slice());
+    let default = tally.same_each(listed.default.as_slice(), told.default.as_slice());
     let plus_total = tally.same(listed.plus_total, told.plus_total);
     let minus_total = tally.same(listed.minus_total, told.minus_total);
     sign && plus && minus && default && plus_total && minus_total

@@ -7,6 +7,7 @@ mod comparing;
 mod filling;
 mod matching;
 mod showing;
+mod stop;
 mod tally;
 mod trying;
 
@@ -21,6 +22,7 @@ use random::shapes;
 use random::shapes::{Joins, Size};
 use showing::{print_call, print_item};
 use std::{env, io};
+use stop::Stop;
 use tally::Tally;
 use trying::try_chart;
 
@@ -50,7 +52,7 @@ fn try_one(
     let heap = rt.alloc();
     let mut equipment = Equipment::new();
     let mut items = Vec::new(heap);
-    let filled = fill(heap, random, &mut equipment, size.items, &mut items, tally)?;
+    let filled = fill(heap, random, &mut equipment, size.items, &mut items, tally);
     let lent = lent_counts(heap, random, size.accounts)?;
     let rubbish = lent_records(heap, random, size.records)?;
     let lister = Lister::new(heap, lent.len(), rubbish.as_slice())?;
@@ -62,10 +64,12 @@ fn try_one(
         rubbish,
         calls: Vec::new(heap),
     };
-    if filled && try_chart(heap, &mut chart, random, size, pairs, tally)? {
-        return Ok(());
+    let tried = filled.and_then(|()| try_chart(heap, &mut chart, random, size, pairs, tally));
+    match tried {
+        Ok(()) => Ok(()),
+        Err(Stop::Difference) => report(rt, &chart),
+        Err(Stop::NoMemory(error)) => Err(error.into()),
     }
-    report(rt, &chart)
 }
 
 // Tries a chart that begins with the joins.
@@ -102,12 +106,10 @@ fn try_numbered(rt: &HostRuntime, number: u32, tally: &mut Tally) -> anyhow::Res
 
 // The number that the first argument is, if there is one.
 fn charts_asked(rt: &HostRuntime) -> anyhow::Result<u32> {
-    for (place, argument) in env::args(rt)?.enumerate() {
-        if place == 1 {
-            return Ok(argument.as_str().parse::<u32>()?);
-        }
+    match env::args(rt)?.nth(1) {
+        Some(argument) => Ok(argument.as_str().parse::<u32>()?),
+        None => Ok(CHARTS),
     }
-    Ok(CHARTS)
 }
 
 fn main(rt: HostRuntime) -> anyhow::Result<()> {

@@ -2,120 +2,91 @@
 
 use crate::chart::Chart;
 use crate::comparing::{same_answer, same_grants};
+use crate::stop::{Stop, unless_different};
 use crate::tally::Tally;
 use book::Book;
 use lister::deciding::Parts;
 use lister::lister::Lister;
 use lister::listing::least_of;
-use model::answer::Answer;
+use lister::refused::{Refused, Stopped};
+use model::access::Access;
 use model::call::Call;
 use model::refusal::Refusal;
 use plans::{Channels, Plan};
 use std::alloc::AllocError;
+use strategies::marks::Arrival;
 
-// The number of a refusal, or 0.
-fn number_of(reply: Result<(), Refusal>) -> u32 {
+// The number of the lister's refusal, or 0.
+// By `as` and not by `Numbered`: the trait would need the twelve numbers a second time, in a definition.
+fn number_listed(reply: Result<(), Refused>) -> u32 {
+    reply.err().map_or(0, |refused| refused as u32)
+}
+
+// The same, unless there was no memory for the lists.
+fn number_unless_full(reply: Result<(), Stopped>) -> Result<u32, AllocError> {
     match reply {
-        Ok(()) => 0,
-        Err(refusal) => refusal.number(),
+        Ok(()) => Ok(0),
+        Err(Stopped::Refused(refused)) => Ok(refused as u32),
+        Err(Stopped::NoMemory(error)) => Err(error),
     }
 }
 
-// Compares what a change came to, and the grants that stand after it.
-fn same_change(book: &Book, lister: &Lister, listed: u32, told: u32, tally: &mut Tally) -> bool {
-    tally.refused(told);
-    let answer = tally.same(u64::from(listed), u64::from(told));
-    same_grants(lister.grants.as_slice(), book.grants(), tally) && answer
-}
-
-// Makes a call that changes what stands, on the book and on the lister.
-fn change(
-    book: &mut Book,
-    lister: &mut Lister,
-    call: Call,
-    tally: &mut Tally,
-) -> Result<bool, AllocError> {
+// Makes a call that changes what stands, on the book and on the lister, and compares what it came to and the grants that stand after it.
+fn change(book: &mut Book, lister: &mut Lister, call: Call, tally: &mut Tally) -> Result<(), Stop> {
     let (listed, told) = match call {
         Call::Join { group, member } => (
-            lister.join(group, member)?,
-            number_of(book.join(group, member)),
+            number_unless_full(lister.join(group, member))?,
+            book.join(group, member),
         ),
         Call::Leave { group, member } => (
-            lister.leave(group, member),
-            number_of(book.leave(group, member)),
+            number_listed(lister.leave(group, member)),
+            book.leave(group, member),
         ),
-        Call::Give { grant } => (lister.give(grant)?, number_of(book.grant(grant))),
-        Call::Withdraw {
-            account,
-            item,
-            right,
-        } => (
-            lister.withdraw(account, item, right),
-            number_of(book.withdraw(account, item, right)),
+        Call::Give { grant } => (number_unless_full(lister.give(grant))?, book.grant(grant)),
+        Call::Withdraw { access } => (
+            number_listed(lister.withdraw(access)),
+            book.withdraw(access),
         ),
-        _ => (0, 0),
+        _ => (0, Ok(())),
     };
-    Ok(same_change(book, lister, listed, told, tally))
+    let answer = tally.same_refusal(listed, told.err());
+    unless_different(same_grants(lister.grants.as_slice(), book.grants(), tally) && answer)
 }
 
-// Compares the answer to a question, or its refusal.
-fn same_reply<P: Plan>(
-    lister: &Lister,
-    plan: &P,
-    asked: (u32, u32, u32),
-    parts: Parts,
-    told: Result<Answer, Refusal>,
-    tally: &mut Tally,
-) -> Result<bool, AllocError> {
-    let (account, item, right) = asked;
-    let refusal = lister.question_refusal(account, item, right, plan.known(item));
-    match told {
-        Err(number) => {
-            let number = number.number();
-            tally.refused(number);
-            Ok(tally.same(u64::from(refusal), u64::from(number)))
-        }
-        Ok(answer) => {
-            let rows = lister.rows(plan, account, item, right)?;
-            let listed = lister.answer(rows.as_slice(), parts)?;
-            let accepted = tally.same(u64::from(refusal), 0);
-            Ok(same_answer(&listed, &answer, tally) && accepted)
+// A question that is put to the book and to the lister, and the plan that it is put over.
+#[derive(Clone, Copy)]
+struct Asked<'a, P> {
+    lister: &'a Lister,
+    plan: &'a P,
+    access: Access,
+}
+
+impl<P: Plan> Asked<'_, P> {
+    // Compares what the book told, or its refusal: what was told is compared with the lister's rows by the function.
+    fn compare<T: Copy, F: FnOnce(&[Arrival], T, &mut Tally) -> Result<bool, AllocError>>(
+        &self,
+        told: Result<T, Refusal>,
+        same: F,
+        tally: &mut Tally,
+    ) -> Result<(), Stop>
+        requires { F.IsAlwaysCallable same }
+    {
+        let known = self.plan.known(self.access.item);
+        let listed = number_listed(self.lister.may_be_asked(self.access, known));
+        match told {
+            Err(refusal) => unless_different(tally.same_refusal(listed, Some(refusal))),
+            Ok(told) => {
+                let rows = self.lister.rows(self.plan, self.access)?;
+                let accepted = tally.same(u64::from(listed), 0);
+                unless_different(same(rows.as_slice(), told, tally)? && accepted)
+            }
         }
     }
 }
 
-// Compares a least distance, or its refusal; 15 stands for no distance.
-fn same_least<P: Plan>(
-    book: &Book,
-    lister: &Lister,
-    plan: &P,
-    call: Call,
-    tally: &mut Tally,
-) -> Result<bool, AllocError> {
-    let Call::Least {
-        account,
-        item,
-        right,
-        sign,
-    } = call
-    else {
-        return Ok(true);
-    };
-    let refusal = lister.question_refusal(account, item, right, plan.known(item));
-    match book.least(plan, account, item, right, sign) {
-        Err(number) => {
-            let number = number.number();
-            tally.refused(number);
-            Ok(tally.same(u64::from(refusal), u64::from(number)))
-        }
-        Ok(told) => {
-            let rows = lister.rows(plan, account, item, right)?;
-            let listed = least_of(rows.as_slice(), sign).unwrap_or(15);
-            let told = u64::from(told.unwrap_or(15));
-            let accepted = tally.same(u64::from(refusal), 0);
-            Ok(tally.same(listed as u64, told) && accepted)
-        }
-    }
+// Compares the least distances; 15 stands for none.
+fn same_least(listed: Option<usize>, told: Option<u8>, tally: &mut Tally) -> bool {
+    tally.same(listed.unwrap_or(15) as u64, u64::from(told.unwrap_or(15)))
 }
 
 // Puts a question over a plan, to the book and to the lister.
@@ -124,43 +95,47 @@ fn ask<P: Plan>(
     lister: &Lister,
     plan: &P,
     call: Call,
+    access: Access,
     parts: Parts,
     tally: &mut Tally,
-) -> Result<bool, AllocError> {
+) -> Result<(), Stop> {
+    let question = Asked {
+        lister,
+        plan,
+        access,
+    };
+    let answer = |rows: &[Arrival], told, tally: &mut Tally| {
+        Ok(same_answer(&lister.answer(rows, parts)?, &told, tally))
+    };
     match call {
-        Call::Quick {
-            account,
-            item,
-            right,
-            strategy,
-        } => {
+        Call::Quick { strategy, .. } => {
             tally.quick = tally.quick.wrapping_add(1);
-            let told = book.quick(plan, account, item, right, strategy);
-            same_reply(lister, plan, (account, item, right), parts, told, tally)
+            let told = book.quick(plan, access, strategy);
+            question.compare(told, answer, tally)
         }
-        Call::Walked {
-            account,
-            item,
-            right,
-            strategy,
-        } => {
+        Call::Walked { strategy, .. } => {
             tally.walked = tally.walked.wrapping_add(1);
-            let told = book.walked(plan, account, item, right, strategy);
-            same_reply(lister, plan, (account, item, right), parts, told, tally)
+            let told = book.walked(plan, access, strategy);
+            question.compare(told, answer, tally)
         }
-        _ => {
+        Call::Least { sign, .. } => {
             tally.least = tally.least.wrapping_add(1);
-            same_least(book, lister, plan, call, tally)
+            let told = book.least(plan, access, sign);
+            let distance = |rows: &[Arrival], told, tally: &mut Tally| {
+                Ok(same_least(least_of(rows, sign), told, tally))
+            };
+            question.compare(told, distance, tally)
         }
+        _ => Ok(()),
     }
 }
 
-// The right of a question; none of another call.
-fn right_asked(call: Call) -> Option<u32> {
+// The account, the item and the right of a question; none of another call.
+fn access_asked(call: Call) -> Option<Access> {
     match call {
-        Call::Quick { right, .. } | Call::Walked { right, .. } | Call::Least { right, .. } => Some(
-            right,
-        ),
+        Call::Quick { access, .. } | Call::Walked { access, .. } | Call::Least { access, .. } => {
+            Some(access)
+        }
         _ => None,
     }
 }
@@ -172,17 +147,22 @@ pub fn make_call(
     call: Call,
     parts: Parts,
     tally: &mut Tally,
-) -> Result<bool, AllocError> {
+) -> Result<(), Stop> {
     tally.calls = tally.calls.wrapping_add(1);
     chart.calls.push(call)?;
-    match right_asked(call) {
+    match access_asked(call) {
         None => change(book, &mut chart.lister, call, tally),
-        Some(right) => {
-            if right < 4 {
-                ask(book, &chart.lister, &chart.equipment, call, parts, tally)
-            } else {
-                ask(book, &chart.lister, &Channels, call, parts, tally)
-            }
+        Some(access) if access.right < 4 => {
+            ask(
+                book,
+                &chart.lister,
+                &chart.equipment,
+                call,
+                access,
+                parts,
+                tally,
+            )
         }
+        Some(access) => ask(book, &chart.lister, &Channels, call, access, parts, tally),
     }
 }

@@ -1,9 +1,10 @@
 //! Calls written as an access list, a line of 18 bytes for each.
 
+use model::access::Access;
 use model::call::Call;
 use random::adding::Item;
+use std::fmt::Display;
 use std::io;
-use strategies::marks::Sign;
 use strategies::strategy::Strategy;
 
 // A number as the list has room for it: one above 99,999 is refused as 99,999 is.
@@ -11,19 +12,20 @@ fn fitted(number: u32) -> u32 {
     number.min(99_999)
 }
 
-fn print_three(
+// A letter, an account, an item and a right, and what is behind them: a sign, or a blank.
+fn print_access<D: Display + Copy>(
     rt: &HostRuntime,
     letter: char,
-    numbers: (u32, u32, u32),
-    sign: char,
+    access: Access,
+    last: D,
 ) -> io::Result<()> {
-    let (account, item, right) = numbers;
-    let account = fitted(account);
-    let item = fitted(item);
-    let right = fitted(right);
-    println!(rt; "{letter}{account:>5}{item:>5}{right:>5} {sign}")
+    let account = fitted(access.account);
+    let item = fitted(access.item);
+    let right = fitted(access.right);
+    println!(rt; "{letter}{account:>5}{item:>5}{right:>5} {last}")
 }
 
+// A letter, a group and a member.
 fn print_pair(rt: &HostRuntime, letter: char, group: u32, member: u32) -> io::Result<()> {
     let group = fitted(group);
     let member = fitted(member);
@@ -32,15 +34,7 @@ fn print_pair(rt: &HostRuntime, letter: char, group: u32, member: u32) -> io::Re
 
 // The line that chooses a strategy, its name at the right.
 fn print_strategy(rt: &HostRuntime, strategy: Strategy) -> io::Result<()> {
-    let name = strategy.name();
-    print!(rt; "S")?;
-    for _blank in name.len()..17 {
-        print!(rt; " ")?;
-    }
-    for letter in name.iter() {
-        print!(rt; "{}", *letter as char)?;
-    }
-    println!(rt)
+    println!(rt; "S{strategy:>17}")
 }
 
 // A container's five columns.
@@ -68,47 +62,17 @@ pub fn print_item(rt: &HostRuntime, added: Item) -> io::Result<()> {
     println!(rt; "  ")
 }
 
-fn letter_of(sign: Sign) -> char {
-    match sign {
-        Sign::Plus => '+',
-        Sign::Minus => '-',
-    }
-}
-
 /// A call; a question with its strategy in a line before it, and a least distance as a question.
 pub fn print_call(rt: &HostRuntime, call: Call) -> io::Result<()> {
     match call {
         Call::Join { group, member } => print_pair(rt, 'J', group, member),
         Call::Leave { group, member } => print_pair(rt, 'L', group, member),
-        Call::Give { grant } => {
-            let numbers = (grant.account, grant.item, grant.right);
-            print_three(rt, 'G', numbers, letter_of(grant.sign))
-        }
-        Call::Withdraw {
-            account,
-            item,
-            right,
-        } => print_three(rt, 'W', (account, item, right), ' '),
-        Call::Quick {
-            account,
-            item,
-            right,
-            strategy,
-        }
-        | Call::Walked {
-            account,
-            item,
-            right,
-            strategy,
-        } => {
+        Call::Give { grant } => print_access(rt, 'G', grant.access(), grant.sign),
+        Call::Withdraw { access } => print_access(rt, 'W', access, ' '),
+        Call::Quick { access, strategy } | Call::Walked { access, strategy } => {
             print_strategy(rt, strategy)?;
-            print_three(rt, 'Q', (account, item, right), ' ')
+            print_access(rt, 'Q', access, ' ')
         }
-        Call::Least {
-            account,
-            item,
-            right,
-            sign: _,
-        } => print_three(rt, 'Q', (account, item, right), ' '),
+        Call::Least { access, .. } => print_access(rt, 'Q', access, ' '),
     }
 }

@@ -1,5 +1,6 @@
 //! What was done so far, and the figures that are printed of it.
 
+use numbered::Numbered;
 use std::io;
 
 /// How much was tried and compared.
@@ -38,20 +39,30 @@ impl Tally {
         listed == told
     }
 
-    /// Counts a refusal; 0 is none.
-    pub fn refused(&mut self, number: u32) {
-        let place = number as usize;
-        if place < 16 {
-            self.refusals[place] = self.refusals[place].wrapping_add(1);
+    /// Compares as many numbers as both have, one by one.
+    pub fn same_each<T: Copy + Into<u64>>(&mut self, listed: &[T], told: &[T]) -> bool {
+        let mut same = true;
+        for (ours, theirs) in listed.iter().zip(told) {
+            same &= self.same((*ours).into(), (*theirs).into());
         }
+        same
+    }
+
+    /// Compares the number of the lister's refusal with that of the refusal that was told, and counts the latter; 0 is none.
+    pub fn same_refusal<R: Numbered>(&mut self, listed: u32, told: Option<R>) -> bool {
+        let told = told.map_or(0, |refusal| refusal.number());
+        if let Some(count) = self.refusals.get_mut(told as usize) {
+            *count = count.wrapping_add(1);
+        }
+        self.same(u64::from(listed), u64::from(told))
     }
 
     /// Prints the figures.
     pub fn print(&self, rt: &HostRuntime) -> io::Result<()> {
         println!(rt; "charts {}", self.charts)?;
         println!(rt; "calls on the book {}", self.calls)?;
-        for number in 1..16usize {
-            println!(rt; "refused with {number}: {}", self.refusals[number])?;
+        for (number, count) in self.refusals.iter().enumerate().skip(1) {
+            println!(rt; "refused with {number}: {count}")?;
         }
         println!(rt; "quick questions {}", self.quick)?;
         println!(rt; "walked questions {}", self.walked)?;

@@ -3,6 +3,7 @@
 use crate::chart::Chart;
 use crate::comparing::{same_counts, same_grants};
 use crate::matching::make_call;
+use crate::stop::{Stop, unless_different};
 use crate::tally::Tally;
 use book::Book;
 use model::call::{Call, Reply};
@@ -13,7 +14,7 @@ use random::generator::Random;
 use random::setting::any_parts;
 use random::shapes::Size;
 use runs::make_and_run;
-use std::alloc::{AllocError, Global};
+use std::alloc::Global;
 
 // Makes the joins that are given.
 fn join_first(
@@ -22,16 +23,14 @@ fn join_first(
     random: &mut Random,
     pairs: &[(u32, u32)],
     tally: &mut Tally,
-) -> Result<bool, AllocError> {
+) -> Result<(), Stop> {
     let parts = any_parts(random);
     for pair in pairs.iter() {
         let call = Call::Join {
             group: pair.0,
             member: pair.1,
         };
-        if !make_call(book, chart, call, parts, tally)? {
-            return Ok(false);
-        }
+        make_call(book, chart, call, parts, tally)?;
     }
     same_counts(&chart.lister, book.counts(), chart.lent.as_slice(), tally)
 }
@@ -43,21 +42,17 @@ fn call_at_random(
     random: &mut Random,
     size: Size,
     tally: &mut Tally,
-) -> Result<bool, AllocError> {
+) -> Result<(), Stop> {
     for turn in 0..size.calls {
         let parts = any_parts(random);
         let known = chart.equipment.next();
         let call = any_call(random, &chart.lister, known, size.habit, parts);
-        if !make_call(book, chart, call, parts, tally)? {
-            return Ok(false);
-        }
+        make_call(book, chart, call, parts, tally)?;
         if size.often > 0 && turn % size.often == 0 {
-            if !same_counts(&chart.lister, book.counts(), chart.lent.as_slice(), tally)? {
-                return Ok(false);
-            }
+            same_counts(&chart.lister, book.counts(), chart.lent.as_slice(), tally)?;
         }
     }
-    Ok(true)
+    Ok(())
 }
 
 // Makes a book over the memory and all calls on it.
@@ -69,16 +64,12 @@ fn run(
     size: Size,
     pairs: &[(u32, u32)],
     tally: &mut Tally,
-) -> Result<bool, AllocError> {
+) -> Result<(), Stop> {
     let mut book = Book::make(counts, records);
     let accounts = tally.same(u64::from(chart.lister.accounts), book.accounts() as u64);
     let capacity = tally.same(chart.lister.capacity as u64, book.capacity() as u64);
-    if !accounts || !capacity {
-        return Ok(false);
-    }
-    if !join_first(&mut book, chart, random, pairs, tally)? {
-        return Ok(false);
-    }
+    unless_different(accounts && capacity)?;
+    join_first(&mut book, chart, random, pairs, tally)?;
     call_at_random(&mut book, chart, random, size, tally)
 }
 
@@ -88,13 +79,14 @@ fn same_memory(
     counts: &[u32],
     records: &[Grant],
     tally: &mut Tally,
-) -> Result<bool, AllocError> {
+) -> Result<(), Stop> {
     let same = same_grants(chart.lister.records.as_slice(), records, tally);
-    Ok(same_counts(&chart.lister, counts, chart.lent.as_slice(), tally)? && same)
+    same_counts(&chart.lister, counts, chart.lent.as_slice(), tally)?;
+    unless_different(same)
 }
 
 // Makes a second book and all calls on it in one go, and compares the memory that it leaves.
-fn run_again(heap: Global, chart: &Chart, tally: &mut Tally) -> Result<bool, AllocError> {
+fn run_again(heap: Global, chart: &Chart, tally: &mut Tally) -> Result<(), Stop> {
     let mut counts = Vec::from_slice(heap, chart.lent.as_slice())?;
     let mut records = Vec::from_slice(heap, chart.rubbish.as_slice())?;
     let mut replies = Vec::from_elem(heap, Reply::Done(Ok(())), chart.calls.len())?;
@@ -119,8 +111,7 @@ fn make_all(
     let _book = make_and_run(counts, records, plan, calls, replies);
 }
 
-/// Tries a chart, and a small one again in one go. When the book is gone, all of the lent memory is compared. Yes if everything
-/// agrees.
+/// Tries a chart, and a small one again in one go. When the book is gone, all of the lent memory is compared.
 pub fn try_chart(
     heap: Global,
     chart: &mut Chart,
@@ -128,11 +119,11 @@ pub fn try_chart(
     size: Size,
     pairs: &[(u32, u32)],
     tally: &mut Tally,
-) -> Result<bool, AllocError> {
+) -> Result<(), Stop> {
     tally.charts = tally.charts.wrapping_add(1);
     let mut counts = Vec::from_slice(heap, chart.lent.as_slice())?;
     let mut records = Vec::from_slice(heap, chart.rubbish.as_slice())?;
-    let same = run(
+    run(
         counts.as_mut_slice(),
         records.as_mut_slice(),
         chart,
@@ -141,11 +132,9 @@ pub fn try_chart(
         pairs,
         tally,
     )?;
-    if !same || !same_memory(chart, counts.as_slice(), records.as_slice(), tally)? {
-        return Ok(false);
-    }
+    same_memory(chart, counts.as_slice(), records.as_slice(), tally)?;
     if size.accounts > 10 {
-        return Ok(true);
+        return Ok(());
     }
     run_again(heap, chart, tally)
 }

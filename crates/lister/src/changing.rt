@@ -1,157 +1,139 @@
-//! What the lister makes of a call that changes what stands: 0 where it is accepted, or the number of the refusal.
+//! What the lister makes of a call that changes what stands.
 
 use crate::lister::{Lister, any_too_large, any_too_long};
+use crate::refused::{Refused, Stopped};
+use model::access::Access;
 use model::grant::Grant;
 use std::alloc::AllocError;
 
 impl Lister {
     /// Makes `member` a member of `group`.
-    pub fn join(&mut self, group: u32, member: u32) -> Result<u32, AllocError> {
-        if group >= self.accounts || member >= self.accounts {
-            return Ok(1);
-        }
+    pub fn join(&mut self, group: u32, member: u32) -> Result<(), Stopped> {
+        self.both_known(group, member)?;
         if self.leads(member, group)? {
-            return Ok(2);
+            return Err(Refused::Circle.into());
         }
         if self.stands(group, member) {
-            return Ok(3);
+            return Err(Refused::MemberStands.into());
         }
         self.add(group, member)?;
-        let refusal = self.overgrown()?;
-        if refusal != 0 {
+        let grown = self.small_enough();
+        if grown.is_err() {
             self.strike(group, member);
         }
-        Ok(refusal)
+        grown
     }
 
     /// Ends the membership of `member` in `group`.
-    pub fn leave(&mut self, group: u32, member: u32) -> u32 {
-        if group >= self.accounts || member >= self.accounts {
-            return 1;
-        }
+    pub fn leave(&mut self, group: u32, member: u32) -> Result<(), Refused> {
+        self.both_known(group, member)?;
         if !self.stands(group, member) {
-            return 6;
+            return Err(Refused::NotAMember);
         }
         self.strike(group, member);
-        0
-    }
-
-    fn add(&mut self, group: u32, member: u32) -> Result<(), AllocError> {
-        if let Some(members) = self.members.get_mut(group as usize) {
-            members.push(member)?;
-        }
         Ok(())
     }
 
-    fn strike(&mut self, group: u32, member: u32) {
-        if let Some(members) = self.members.get_mut(group as usize) {
-            take_out(members, member);
+    // Refuses an account that is not known.
+    fn both_known(&self, group: u32, member: u32) -> Result<(), Refused> {
+        if group < self.accounts && member < self.accounts {
+            Ok(())
+        } else {
+            Err(Refused::UnknownAccount)
         }
     }
 
-    // Is there a chain that is too long (4), or else a count that is too large (5)?
-    fn overgrown(&self) -> Result<u32, AllocError> {
-        let mut refusal = 0;
+    // Puts the member behind the others of the group.
+    fn add(&mut self, group: u32, member: u32) -> Result<(), AllocError> {
+        match self.members.get_mut(group as usize) {
+            Some(members) => Ok(members.push(member)?),
+            None => Ok(()),
+        }
+    }
+
+    // Takes the member out of the group's list, where it is once.
+    fn strike(&mut self, group: u32, member: u32) {
+        if let Some(members) = self.members.get_mut(group as usize) {
+            members.retain(|other| *other != member);
+        }
+    }
+
+    // Refuses a chain that is too long, or else a count that is too large.
+    fn small_enough(&self) -> Result<(), Stopped> {
+        let mut sizes = Ok(());
         for account in 0..self.accounts {
             let counts = self.counted_from(account)?;
             if any_too_long(counts.as_slice()) {
-                return Ok(4);
+                return Err(Refused::ChainTooLong.into());
             }
             if any_too_large(counts.as_slice()) {
-                refusal = 5;
+                sizes = Err(Refused::CountTooLarge.into());
             }
         }
-        Ok(refusal)
+        sizes
     }
 
-    // What is refused of any account, item and right.
-    fn out_of_range(&self, account: u32, item: u32, right: u32) -> u32 {
-        if account >= self.accounts {
-            1
-        } else if right > 7 {
-            7
-        } else if item > 255 {
-            8
+    // Refuses what is out of range of any account, item and right.
+    fn in_range(&self, access: Access) -> Result<(), Refused> {
+        if access.account >= self.accounts {
+            Err(Refused::UnknownAccount)
+        } else if access.right > 7 {
+            Err(Refused::NoSuchRight)
+        } else if access.item > 255 {
+            Err(Refused::NoSuchItem)
         } else {
-            0
+            Ok(())
         }
     }
 
-    /// What is refused of a question, where the plan knows the item or does not.
-    pub fn question_refusal(&self, account: u32, item: u32, right: u32, known: bool) -> u32 {
-        let refusal = self.out_of_range(account, item, right);
-        if refusal == 0 && !known { 12 } else { refusal }
+    /// Refuses what no question may ask, where the plan knows the item or does not.
+    pub fn may_be_asked(&self, access: Access, known: bool) -> Result<(), Refused> {
+        self.in_range(access)?;
+        if known {
+            Ok(())
+        } else {
+            Err(Refused::ItemUnknown)
+        }
     }
 
-    // The place of the grant for the account, the item and the right.
-    fn place_of(&self, account: u32, item: u32, right: u32) -> Option<usize> {
-        for (place, grant) in self.grants.iter().enumerate() {
-            if grant.account == account && grant.item == item && grant.right == right {
-                return Some(place);
-            }
-        }
-        None
+    // Does a grant stand for the account, the item and the right?
+    fn granted(&self, access: Access) -> bool {
+        self.grants.iter().any(|grant| grant.access() == access)
     }
 
     /// Puts a grant behind the others.
-    pub fn give(&mut self, grant: Grant) -> Result<u32, AllocError> {
-        let refusal = self.out_of_range(grant.account, grant.item, grant.right);
-        if refusal != 0 {
-            return Ok(refusal);
-        }
-        if self
-            .place_of(grant.account, grant.item, grant.right)
-            .is_some()
-        {
-            return Ok(9);
+    pub fn give(&mut self, grant: Grant) -> Result<(), Stopped> {
+        let access = grant.access();
+        self.in_range(access)?;
+        if self.granted(access) {
+            return Err(Refused::GrantStands.into());
         }
         let place = self.grants.len();
         if place >= self.capacity {
-            return Ok(10);
+            return Err(Refused::ListFull.into());
         }
         self.grants.push(grant)?;
         if let Some(record) = self.records.get_mut(place) {
             *record = grant;
         }
-        Ok(0)
+        Ok(())
     }
 
     /// Takes a grant back. Those behind it move up, and the last record keeps what lies there.
-    pub fn withdraw(&mut self, account: u32, item: u32, right: u32) -> u32 {
-        let refusal = self.out_of_range(account, item, right);
-        if refusal != 0 {
-            return refusal;
+    pub fn withdraw(&mut self, access: Access) -> Result<(), Refused> {
+        self.in_range(access)?;
+        if !self.granted(access) {
+            return Err(Refused::NoSuchGrant);
         }
-        let Some(place) = self.place_of(account, item, right) else {
-            return 11;
-        };
-        if place < self.grants.len() {
-            let _ = self.grants.remove(place);
-        }
+        self.grants.retain(|grant| grant.access() != access);
         self.write_records();
-        0
+        Ok(())
     }
 
     // Writes the grants that stand into the first records.
     fn write_records(&mut self) {
-        for place in 0..self.grants.len() {
-            if let Some(grant) = self.grants.get(place).copied() {
-                if let Some(record) = self.records.get_mut(place) {
-                    *record = grant;
-                }
-            }
-        }
-    }
-}
-
-// Takes the member out of the list.
-fn take_out(members: &mut Vec<u32>, member: u32) {
-    for place in 0..members.len() {
-        if members.get(place).copied() == Some(member) {
-            if place < members.len() {
-                let _ = members.remove(place);
-            }
-            return;
+        for (record, grant) in self.records.iter_mut().zip(self.grants.iter()) {
+            *record = *grant;
         }
     }
 }

@@ -1,11 +1,12 @@
 //! The four steps from marks to one sign, taken one after the other on whole lists.
 
 use std::alloc::{AllocError, Global};
+use std::cmp::Ordering;
 use strategies::marks::{Arrival, Mark, Sign};
 use strategies::strategy::{DefaultRule, Locality, Majority, Strategy};
 
 /// The parts of a strategy: any of the fifty-four settings.
-#[derive(Clone, Copy)]
+#[derive(Clone, Copy, PartialEq, Eq, Debug)]
 pub struct Parts {
     pub default: DefaultRule,
     pub locality: Locality,
@@ -14,10 +15,17 @@ pub struct Parts {
 }
 
 /// A sign that is left once default marks are settled, and its distance.
-#[derive(Clone, Copy)]
+#[derive(Clone, Copy, PartialEq, Eq, Debug)]
 pub struct Vote {
     pub sign: Sign,
     pub distance: usize,
+}
+
+/// How many of some signs are yeses, and how many are noes.
+#[derive(Clone, Copy, PartialEq, Eq, Debug)]
+pub struct Numbers {
+    pub plus: u64,
+    pub minus: u64,
 }
 
 impl Parts {
@@ -27,102 +35,84 @@ impl Parts {
     }
 }
 
+// What is left of a mark once default marks are settled.
+fn sign_of(mark: Mark, rule: DefaultRule) -> Option<Sign> {
+    match (mark, rule) {
+        (Mark::Signed(sign), _) | (Mark::Default, DefaultRule::Counts(sign)) => Some(sign),
+        (Mark::Default, DefaultRule::Dropped) => None,
+    }
+}
+
 /// The first step: default marks count as a sign, or are dropped.
 pub fn votes_of(
     heap: Global,
     rows: &[Arrival],
     rule: DefaultRule,
 ) -> Result<Vec<Vote>, AllocError> {
-    let mut votes = Vec::new(heap);
-    for row in rows.iter() {
-        let distance = row.distance;
-        match (row.mark, rule) {
-            (Mark::Signed(sign), _) => votes.push(Vote { sign, distance })?,
-            (Mark::Default, DefaultRule::Counts(sign)) => votes.push(Vote { sign, distance })?,
-            (Mark::Default, DefaultRule::Dropped) => {}
-        }
-    }
-    Ok(votes)
+    rows.iter()
+        .filter_map(|row| {
+            let distance = row.distance;
+            sign_of(row.mark, rule).map(|sign| Vote { sign, distance })
+        })
+        .collect(heap)
 }
 
-// The distance that decides: the least or the greatest of any sign.
-fn chosen_distance(votes: &[Vote], nearest: bool) -> usize {
-    let mut chosen = if nearest { usize::MAX } else { 0 };
-    for vote in votes.iter() {
-        if nearest {
-            chosen = chosen.min(vote.distance);
-        } else {
-            chosen = chosen.max(vote.distance);
-        }
+// The distance that decides, the least or the greatest of any sign; none where all do, or where there are none.
+fn chosen_distance(votes: &[Vote], locality: Locality) -> Option<usize> {
+    match locality {
+        Locality::Anywhere => None,
+        Locality::Nearest => votes.iter().map(|vote| vote.distance).min(),
+        Locality::Farthest => votes.iter().map(|vote| vote.distance).max(),
     }
-    chosen
 }
 
 // The second step: the signs at the distance that decides, or all.
 fn kept_of(heap: Global, votes: &[Vote], locality: Locality) -> Result<Vec<Vote>, AllocError> {
-    let mut kept = Vec::new(heap);
-    let near = chosen_distance(votes, true);
-    let far = chosen_distance(votes, false);
-    for vote in votes.iter() {
-        let keep = match locality {
-            Locality::Anywhere => true,
-            Locality::Nearest => vote.distance == near,
-            Locality::Farthest => vote.distance == far,
-        };
-        if keep {
-            kept.push(*vote)?;
+    let chosen = chosen_distance(votes, locality);
+    votes
+        .iter()
+        .copied()
+        .filter(|vote| chosen.is_none_or(|distance| vote.distance == distance))
+        .collect(heap)
+}
+
+impl Numbers {
+    /// The numbers of the signs.
+    pub fn of(votes: &[Vote]) -> Numbers {
+        let many = |sign| votes.iter().filter(|vote| vote.sign == sign).count() as u64;
+        Numbers {
+            plus: many(Sign::Plus),
+            minus: many(Sign::Minus),
         }
     }
-    Ok(kept)
-}
 
-/// How many of the signs are yeses, and how many are noes.
-pub fn numbers_of(votes: &[Vote]) -> (u64, u64) {
-    let mut plus = 0u64;
-    let mut minus = 0u64;
-    for vote in votes.iter() {
-        match vote.sign {
-            Sign::Plus => plus = plus.wrapping_add(1),
-            Sign::Minus => minus = minus.wrapping_add(1),
+    // The sign of the larger number.
+    fn larger(self) -> Option<Sign> {
+        match self.plus.cmp(&self.minus) {
+            Ordering::Greater => Some(Sign::Plus),
+            Ordering::Less => Some(Sign::Minus),
+            Ordering::Equal => None,
         }
     }
-    (plus, minus)
-}
 
-// The sign of the larger number.
-fn larger(numbers: (u64, u64)) -> Option<Sign> {
-    let (plus, minus) = numbers;
-    if plus > minus {
-        Some(Sign::Plus)
-    } else if minus > plus {
-        Some(Sign::Minus)
-    } else {
-        None
+    // The only sign that there is.
+    fn only(self) -> Option<Sign> {
+        match (self.plus > 0, self.minus > 0) {
+            (true, false) => Some(Sign::Plus),
+            (false, true) => Some(Sign::Minus),
+            _ => None,
+        }
     }
 }
 
-// The fourth step: the only sign that is kept, or the preferred one.
-fn rest(kept: (u64, u64), preferred: Sign) -> Sign {
-    let (plus, minus) = kept;
-    if plus > 0 && minus == 0 {
-        Sign::Plus
-    } else if minus > 0 && plus == 0 {
-        Sign::Minus
-    } else {
-        preferred
-    }
-}
-
-/// The sign that the setting gives on the signs left after the first step.
+/// The sign that the setting gives on the signs left after the first step: in the third step that of the larger number, and in
+/// the fourth the only one that is kept, or the preferred one.
 pub fn decide(heap: Global, votes: &[Vote], parts: Parts) -> Result<Sign, AllocError> {
-    let kept = kept_of(heap, votes, parts.locality)?;
+    let kept = Numbers::of(kept_of(heap, votes, parts.locality)?.as_slice());
     let compared = match parts.majority {
         Majority::Skipped => None,
-        Majority::Before => larger(numbers_of(votes)),
-        Majority::After => larger(numbers_of(kept.as_slice())),
+        Majority::Before => Numbers::of(votes).larger(),
+        Majority::After => kept.larger(),
     };
-    Ok(match compared {
-        Some(sign) => sign,
-        None => rest(numbers_of(kept.as_slice()), parts.preferred),
-    })
+    Ok(compared.or(kept.only()).unwrap_or(parts.preferred))
 }

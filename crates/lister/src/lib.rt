@@ -3,5 +3,7 @@
 
 pub mod changing;
 pub mod deciding;
+pub mod every_chain;
 pub mod lister;
 pub mod listing;
+pub mod refused;

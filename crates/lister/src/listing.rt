@@ -1,11 +1,14 @@
 //! What the lister answers to a question: every mark in a list, one row for each pair of chains, and the list counted.
 
-use crate::deciding::{Parts, decide, numbers_of, votes_of};
-use crate::lister::{Chain, Lister, item_chains};
+use crate::deciding::{Numbers, Parts, decide, votes_of};
+use crate::every_chain::{Chain, item_chains};
+use crate::lister::Lister;
+use model::access::Access;
 use model::answer::Answer;
 use plans::Plan;
 use std::alloc::AllocError;
 use strategies::marks::{Arrival, Mark, Sign};
+use strategies::rows::DISTANCES;
 
 impl Lister {
     // Adds a row for each chain from the account to `to`, at its length and so much more.
@@ -18,33 +21,25 @@ impl Lister {
         rows: &mut Vec<Arrival>,
     ) -> Result<(), AllocError> {
         let chains = self.chains_from(from)?;
-        for chain in chains.iter() {
-            if chain.end == to {
-                let distance = chain.length.wrapping_add(more);
-                rows.push(Arrival { mark, distance })?;
-            }
+        for chain in chains.iter().filter(|chain| chain.end == to) {
+            let distance = chain.length.wrapping_add(more);
+            rows.push(Arrival { mark, distance })?;
         }
         Ok(())
     }
 
     // Is the account a member of none?
     fn groupless(&self, account: u32) -> bool {
-        for group in 0..self.accounts {
-            if self.stands(group, account) {
-                return false;
-            }
-        }
-        true
+        (0..self.accounts).all(|group| !self.stands(group, account))
     }
 
     // Does the account hold a grant of the right on one of the items?
     fn holds(&self, account: u32, right: u32, items: &[Chain]) -> bool {
-        for grant in self.grants.iter() {
-            if grant.account == account && grant.right == right && ends_at(items, grant.item) {
-                return true;
-            }
-        }
-        false
+        self.grants.iter().any(|grant| {
+            grant.account == account
+                && grant.right == right
+                && items.iter().any(|item| item.end == grant.item)
+        })
     }
 
     // Adds the rows of every grant of the right: one for each pair of an account chain and an item chain.
@@ -55,33 +50,24 @@ impl Lister {
         items: &[Chain],
         rows: &mut Vec<Arrival>,
     ) -> Result<(), AllocError> {
-        for grant in self.grants.iter() {
-            if grant.right == right {
-                for item in items.iter() {
-                    if item.end == grant.item {
-                        let mark = Mark::Signed(grant.sign);
-                        self.add_rows(grant.account, account, mark, item.length, rows)?;
-                    }
-                }
+        for grant in self.grants.iter().filter(|grant| grant.right == right) {
+            let mark = Mark::Signed(grant.sign);
+            for item in items.iter().filter(|item| item.end == grant.item) {
+                self.add_rows(grant.account, account, mark, item.length, rows)?;
             }
         }
         Ok(())
     }
 
     /// Every mark that reaches the account on the item for the right.
-    pub fn rows<P: Plan>(
-        &self,
-        plan: &P,
-        account: u32,
-        item: u32,
-        right: u32,
-    ) -> Result<Vec<Arrival>, AllocError> {
+    pub fn rows<P: Plan>(&self, plan: &P, access: Access) -> Result<Vec<Arrival>, AllocError> {
         let mut rows = Vec::new(self.heap);
-        let items = item_chains(self.heap, plan, item)?;
-        self.add_signed(account, right, items.as_slice(), &mut rows)?;
+        let items = item_chains(self.heap, plan, access.item)?;
+        let items = items.as_slice();
+        self.add_signed(access.account, access.right, items, &mut rows)?;
         for other in 0..self.accounts {
-            if self.groupless(other) && !self.holds(other, right, items.as_slice()) {
-                self.add_rows(other, account, Mark::Default, 0, &mut rows)?;
+            if self.groupless(other) && !self.holds(other, access.right, items) {
+                self.add_rows(other, access.account, Mark::Default, 0, &mut rows)?;
             }
         }
         Ok(rows)
@@ -90,43 +76,24 @@ impl Lister {
     /// The answer that the setting gives on the rows.
     pub fn answer(&self, rows: &[Arrival], parts: Parts) -> Result<Answer, AllocError> {
         let votes = votes_of(self.heap, rows, parts.default)?;
-        let (plus_total, minus_total) = numbers_of(votes.as_slice());
+        let total = Numbers::of(votes.as_slice());
         Ok(Answer {
             sign: decide(self.heap, votes.as_slice(), parts)?,
-            plus: by_distance(rows, Some(Sign::Plus)),
-            minus: by_distance(rows, Some(Sign::Minus)),
-            default: by_distance(rows, None),
-            plus_total,
-            minus_total,
+            plus: by_distance(rows, Mark::Signed(Sign::Plus)),
+            minus: by_distance(rows, Mark::Signed(Sign::Minus)),
+            default: by_distance(rows, Mark::Default),
+            plus_total: total.plus,
+            minus_total: total.minus,
         })
     }
 }
 
-// Does one of the chains end at the item?
-fn ends_at(chains: &[Chain], item: u32) -> bool {
-    for chain in chains.iter() {
-        if chain.end == item {
-            return true;
-        }
-    }
-    false
-}
-
-// Is the row of this sign, or, without one, a default mark?
-fn is_of(row: Arrival, sign: Option<Sign>) -> bool {
-    match (row.mark, sign) {
-        (Mark::Signed(a), Some(b)) => a == b,
-        (Mark::Default, None) => true,
-        _ => false,
-    }
-}
-
-// How many rows of one kind lie at each distance.
-fn by_distance(rows: &[Arrival], sign: Option<Sign>) -> [u64; 15] {
-    let mut counts = [0u64; 15];
-    for row in rows.iter() {
-        if is_of(*row, sign) && row.distance < 15 {
-            counts[row.distance] = counts[row.distance].wrapping_add(1);
+// How many rows of one mark lie at each distance.
+fn by_distance(rows: &[Arrival], mark: Mark) -> [u64; DISTANCES] {
+    let mut counts = [0u64; DISTANCES];
+    for row in rows.iter().filter(|row| row.mark == mark) {
+        if let Some(count) = counts.get_mut(row.distance) {
+            *count = count.wrapping_add(1);
         }
     }
     counts
@@ -134,14 +101,8 @@ fn by_distance(rows: &[Arrival], sign: Option<Sign>) -> [u64; 15] {
 
 /// The least distance of a row of the sign.
 pub fn least_of(rows: &[Arrival], sign: Sign) -> Option<usize> {
-    let mut least = None;
-    for row in rows.iter() {
-        if is_of(*row, Some(sign)) {
-            least = match least {
-                Some(distance) => Some(row.distance.min(distance)),
-                None => Some(row.distance),
-            };
-        }
-    }
-    least
+    rows.iter()
+        .filter(|row| row.mark == Mark::Signed(sign))
+        .map(|row| row.distance)
+        .min()
 }

@@ -3,7 +3,7 @@
 use crate::generator::Random;
 
 /// An item that is to be added, and its containers.
-#[derive(Clone, Copy)]
+#[derive(Clone, Copy, PartialEq, Eq, Debug)]
 pub struct Item {
     pub item: u32,
     pub first: Option<u32>,

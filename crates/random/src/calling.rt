@@ -1,59 +1,21 @@
 //! Calls at random, good ones and bad ones.
 
 use crate::generator::Random;
+use crate::picking::{any_access, any_pair};
 use crate::setting::any_sign;
 use lister::deciding::Parts;
 use lister::lister::Lister;
+use model::access::Access;
 use model::call::Call;
 use model::grant::Grant;
 
 /// How often each kind of call is made, in relation to the others.
-#[derive(Clone, Copy)]
+#[derive(Clone, Copy, PartialEq, Eq, Debug)]
 pub struct Habit {
     pub joins: u32,
     pub leaves: u32,
     pub gives: u32,
     pub withdrawals: u32,
-}
-
-/// An account, an item and a right.
-#[derive(Clone, Copy)]
-pub struct Place {
-    pub account: u32,
-    pub item: u32,
-    pub right: u32,
-}
-
-// A number from `end` on: right behind it, some way behind it, or the largest.
-fn too_large(random: &mut Random, end: u32) -> u32 {
-    match random.below(4) {
-        0 => end,
-        1 => u32::MAX.wrapping_sub(random.below(3)),
-        _ => end.saturating_add(random.below(90_000)),
-    }
-}
-
-// An account, often the first or the last, and sometimes an unknown one.
-fn any_account(random: &mut Random, accounts: u32) -> u32 {
-    if random.once_in(30) {
-        return too_large(random, accounts);
-    }
-    match random.below(6) {
-        0 => 0,
-        1 => accounts.saturating_sub(1),
-        _ => random.below(accounts),
-    }
-}
-
-// A group and a member: most often so that no circle arises, and often neighbours, so that long chains do.
-fn any_pair(random: &mut Random, accounts: u32) -> (u32, u32) {
-    let a = any_account(random, accounts);
-    let b = random.below(accounts);
-    match random.below(8) {
-        0 => (a, b),
-        1 | 2 => (b, b.saturating_add(1)),
-        _ => (a.min(b), a.max(b)),
-    }
 }
 
 // A membership that stands, if the account at hand has members.
@@ -65,106 +27,63 @@ fn standing_pair(random: &mut Random, lister: &Lister) -> Option<(u32, u32)> {
     Some((group, *member))
 }
 
-// An item: of few, of those that are known, or any; sometimes there is no such item.
-fn any_item(random: &mut Random, known: u32) -> u32 {
-    if random.once_in(30) {
-        return too_large(random, 256);
-    }
-    match random.below(4) {
-        0 => random.below(256),
-        1 => random.below(known),
-        _ => random.below(12),
-    }
-}
-
-fn any_right(random: &mut Random) -> u32 {
-    if random.once_in(30) {
-        return too_large(random, 8);
-    }
-    if random.once_in(4) {
-        random.below(8)
-    } else {
-        random.below(2).wrapping_mul(4)
-    }
-}
-
-fn any_place(random: &mut Random, accounts: u32, known: u32) -> Place {
-    Place {
-        account: any_account(random, accounts),
-        item: any_item(random, known),
-        right: any_right(random),
-    }
-}
-
-// The place of a grant that stands, if any does.
-fn standing_place(random: &mut Random, lister: &Lister) -> Option<Place> {
+// What a grant that stands is for, if any does.
+fn standing_access(random: &mut Random, lister: &Lister) -> Option<Access> {
     let place = random.below((lister.grants.len() & 0xffff) as u32);
-    let grant = lister.grants.get(place as usize)?;
-    Some(Place {
-        account: grant.account,
-        item: grant.item,
-        right: grant.right,
-    })
+    lister.grants.get(place as usize).map(Grant::access)
 }
 
-fn any_leaving(random: &mut Random, lister: &Lister) -> Call {
-    let any = any_pair(random, lister.accounts);
-    let (group, member) = if random.once_in(3) {
+// Once in three times any of its kind, and otherwise one that stands, if one does.
+fn mostly_standing<T: Copy, F: FnOnce(&mut Random) -> Option<T>>(
+    random: &mut Random,
+    any: T,
+    standing: F,
+) -> T
+    requires { F.IsAlwaysCallable standing }
+{
+    if random.once_in(3) {
         any
     } else {
-        standing_pair(random, lister).unwrap_or(any)
-    };
+        standing(random).unwrap_or(any)
+    }
+}
+
+// The end of a membership, most often of one that stands.
+fn any_leaving(random: &mut Random, lister: &Lister) -> Call {
+    let any = any_pair(random, lister.accounts);
+    let (group, member) = mostly_standing(random, any, |random| standing_pair(random, lister));
     Call::Leave { group, member }
 }
 
+// A grant taken back, most often one that stands.
 fn any_withdrawal(random: &mut Random, lister: &Lister, known: u32) -> Call {
-    let any = any_place(random, lister.accounts, known);
-    let place = if random.once_in(3) {
-        any
-    } else {
-        standing_place(random, lister).unwrap_or(any)
-    };
-    Call::Withdraw {
-        account: place.account,
-        item: place.item,
-        right: place.right,
-    }
+    let any = any_access(random, lister.accounts, known);
+    let access = mostly_standing(random, any, |random| standing_access(random, lister));
+    Call::Withdraw { access }
 }
 
+// A grant that is given.
 fn any_grant(random: &mut Random, accounts: u32, known: u32) -> Call {
-    let place = any_place(random, accounts, known);
+    let access = any_access(random, accounts, known);
     Call::Give {
         grant: Grant {
-            account: place.account,
-            item: place.item,
-            right: place.right,
+            account: access.account,
+            item: access.item,
+            right: access.right,
             sign: any_sign(random),
         },
     }
 }
 
+// A question of any kind.
 fn any_question(random: &mut Random, accounts: u32, known: u32, parts: Parts) -> Call {
-    let place = any_place(random, accounts, known);
-    let account = place.account;
-    let item = place.item;
-    let right = place.right;
+    let access = any_access(random, accounts, known);
+    let strategy = parts.strategy();
     match random.below(3) {
-        0 => Call::Quick {
-            account,
-            item,
-            right,
-            strategy: parts.strategy(),
-        },
-        1 => Call::Walked {
-            account,
-            item,
-            right,
-            strategy: parts.strategy(),
-        },
+        0 => Call::Quick { access, strategy },
+        1 => Call::Walked { access, strategy },
         _ => Call::Least {
-            account,
-            item,
-            right,
+            access,
             sign: any_sign(random),
         },
     }

@@ -1,5 +1,7 @@
 //! Numbers that look random and are the same in every run.
 
+ghost use Rattle.std.specs.Prelude.{◌<◌};
+
 /// A generator: a state that is shifted and mixed at each step.
 #[derive(Drop)]
 pub struct Random {
@@ -14,6 +16,7 @@ impl Random {
         }
     }
 
+    // The next number, of all 64 bits.
     fn next(&mut self) -> u64 {
         let mut x = self.state;
         x ^= x >> 12;
@@ -24,7 +27,9 @@ impl Random {
     }
 
     /// A number below `end`, or 0 if that is 0.
-    pub fn below(&mut self, end: u32) -> u32 {
+    pub fn below(&mut self, end: u32) -> u32
+        ensures { 0 < end → result < end }
+    {
         if end == 0 {
             return 0;
         }

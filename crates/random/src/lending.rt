@@ -22,11 +22,9 @@ pub fn lent_counts(
         1 => more.wrapping_sub(1),
         _ => random.below(more),
     };
-    let mut counts = Vec::new(heap);
-    for _place in 0..needed.wrapping_add(extra) {
-        counts.push(random.below(200_000))?;
-    }
-    Ok(counts)
+    (0..needed.wrapping_add(extra))
+        .map(|_place| random.below(200_000))
+        .collect(heap)
 }
 
 /// Records filled with rubbish that looks like grants.
@@ -35,14 +33,12 @@ pub fn lent_records(
     random: &mut Random,
     many: u32,
 ) -> Result<Vec<Grant>, AllocError> {
-    let mut records = Vec::new(heap);
-    for _place in 0..many {
-        records.push(Grant {
+    (0..many)
+        .map(|_place| Grant {
             account: random.below(70),
             item: random.below(300),
             right: random.below(10),
             sign: any_sign(random),
-        })?;
-    }
-    Ok(records)
+        })
+        .collect(heap)
 }

@@ -5,5 +5,6 @@ pub mod adding;
 pub mod calling;
 pub mod generator;
 pub mod lending;
+mod picking;
 pub mod setting;
 pub mod shapes;

@@ -14,24 +14,30 @@ pub fn any_sign(random: &mut Random) -> Sign {
     }
 }
 
+// One of the three.
+fn one_of<T: Copy>(random: &mut Random, choices: [T; 3]) -> T {
+    choices[random.below(3) as usize]
+}
+
 /// One of the fifty-four settings.
 pub fn any_parts(random: &mut Random) -> Parts {
     Parts {
-        default: match random.below(3) {
-            0 => DefaultRule::Dropped,
-            1 => DefaultRule::Counts(Sign::Plus),
-            _ => DefaultRule::Counts(Sign::Minus),
-        },
-        locality: match random.below(3) {
-            0 => Locality::Anywhere,
-            1 => Locality::Nearest,
-            _ => Locality::Farthest,
-        },
-        majority: match random.below(3) {
-            0 => Majority::Skipped,
-            1 => Majority::Before,
-            _ => Majority::After,
-        },
+        default: one_of(
+            random,
+            [
+                DefaultRule::Dropped,
+                DefaultRule::Counts(Sign::Plus),
+                DefaultRule::Counts(Sign::Minus),
+            ],
+        ),
+        locality: one_of(
+            random,
+            [Locality::Anywhere, Locality::Nearest, Locality::Farthest],
+        ),
+        majority: one_of(
+            random,
+            [Majority::Skipped, Majority::Before, Majority::After],
+        ),
         preferred: any_sign(random),
     }
 }

@@ -3,9 +3,10 @@
 use crate::calling::Habit;
 use crate::generator::Random;
 use std::alloc::{AllocError, Global};
+use std::ops::Range;
 
 /// How large a chart is, how many calls are made on it, and after how many of them the whole table is compared.
-#[derive(Clone, Copy)]
+#[derive(Clone, Copy, PartialEq, Eq, Debug)]
 pub struct Size {
     pub accounts: u32,
     pub records: u32,
@@ -93,11 +94,11 @@ pub struct Joins {
 // Adds a join of every account of a layer to every account of the next.
 fn join_layers(
     pairs: &mut Vec<(u32, u32)>,
-    above: (u32, u32),
-    below: (u32, u32),
+    above: Range<u32>,
+    below: Range<u32>,
 ) -> Result<(), AllocError> {
-    for group in above.0..above.1 {
-        for member in below.0..below.1 {
+    for group in above {
+        for member in below.start..below.end {
             pairs.push((group, member))?;
         }
     }
@@ -113,15 +114,15 @@ pub fn spindle(heap: Global, random: &mut Random) -> Result<Joins, AllocError> {
         (6, 7)
     };
     let mut end = 63u32;
-    let mut layer = (end, 64u32);
+    let mut layer = end..64;
     for _layer in 0..layers {
         let wider = width.wrapping_add(random.below(3)).wrapping_sub(1);
         let start = end.saturating_sub(wider);
-        join_layers(&mut pairs, (start, end), layer)?;
-        layer = (start, end);
+        join_layers(&mut pairs, start..end, layer)?;
+        layer = start..end;
         end = start;
     }
-    join_layers(&mut pairs, (0, 1), layer)?;
+    join_layers(&mut pairs, 0..1, layer)?;
     Ok(Joins {
         accounts: 64,
         pairs,
@@ -131,20 +132,20 @@ pub fn spindle(heap: Global, random: &mut Random) -> Result<Joins, AllocError> {
 /// Five layers of ten full accounts and a thin one: 99,999 chains of length 6, and one join more would make 100,000.
 pub fn brim(heap: Global) -> Result<Joins, AllocError> {
     let mut pairs = Vec::new(heap);
-    join_layers(&mut pairs, (45, 55), (56, 57))?;
+    join_layers(&mut pairs, 45..55, 56..57)?;
     for layer in 0..4u32 {
         let start = 34u32.wrapping_sub(layer.wrapping_mul(11));
         let full = start.wrapping_add(10);
         let next = start.wrapping_add(11);
         let next_full = start.wrapping_add(21);
-        join_layers(&mut pairs, (start, full), (next, next_full))?;
+        join_layers(&mut pairs, start..full, next..next_full)?;
         join_layers(
             &mut pairs,
-            (full, next),
-            (next.wrapping_add(1), next_full.wrapping_add(1)),
+            full..next,
+            next.wrapping_add(1)..next_full.wrapping_add(1),
         )?;
     }
-    join_layers(&mut pairs, (0, 1), (2, 12))?;
+    join_layers(&mut pairs, 0..1, 2..12)?;
     pairs.push((55, 56))?;
     Ok(Joins {
         accounts: 57,
