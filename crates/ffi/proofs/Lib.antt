@@ -1,3 +1,2 @@
-mod Largest
 mod Running
 mod Strategies

@@ -55,10 +55,14 @@ abbrev pub distance_number : Option ℕ → ℕ
 distance_number (Some d) = d
 distance_number None = 255
 
+-- the record of what gives nothing unless it is refused, where refusals have these numbers
+abbrev pub done_record : {R : Type 0} → (R → ℕ) → Result (Unit {0}) R → ReplyRecord
+done_record number (Ok u) = short_reply 0 0
+done_record number (Err e) = short_reply (number e) 0
+
 -- the record of what a call on the book gave
 abbrev pub reply_record : Reply → ReplyRecord
-reply_record (Done (Ok u)) = short_reply 0 0
-reply_record (Done (Err e)) = short_reply (refusal_number e) 0
+reply_record (Done r) = done_record refusal_number r
 reply_record (Answered (Ok a)) = answer_reply a
 reply_record (Answered (Err e)) = short_reply (refusal_number e) 0
 reply_record (Distance (Ok d)) = short_reply 0 (distance_number d)
@@ -66,8 +70,7 @@ reply_record (Distance (Err e)) = short_reply (refusal_number e) 0
 
 -- the record of what the equipment table gave
 abbrev pub equipment_record : Result (Unit {0}) EquipmentRefusal → ReplyRecord
-equipment_record (Ok u) = short_reply 0 0
-equipment_record (Err e) = short_reply (equipment_number e) 0
+equipment_record r = done_record equipment_number r
 
 -- the record asks for nothing: an unknown kind, plan, sign or strategy
 abbrev pub no_call : ReplyRecord

@@ -13,6 +13,7 @@ use Rattle.ffi.specs.declared.plain.CallRecord.{CallRecord}
 use Rattle.ffi.specs.declared.plain.ReplyRecord.{ReplyRecord}
 use Rattle.ffi.specs.declared.request.Request.{Request}
 use Rattle.ffi.specs.declared.request.Request.TheVariants.{OverChannels, OverEquipment, Equip}
+use Rattle.ffi.specs.declared.served.Served.{Served}
 use Rattle.ffi.specs.Replies.{equipment_record, no_call, reply_record}
 use Rattle.ffi.specs.Requests.{request_of}
 
@@ -32,6 +33,10 @@ at_first = begun just_made
 -- what stands in a book and an equipment table
 abbrev pub standing : Book → Equipment → Standing
 standing b e = record { model = shown b; equipment = table e }
+
+-- what stands where calls are served
+abbrev pub standing_on : Served → Standing
+standing_on s = standing s.book s.equipment
 
 -- what a request gives; a record that asks for nothing is told so
 abbrev pub reply_to : ℕ → ℕ → Standing → Option Request → ReplyRecord

@@ -1,37 +1,62 @@
 //! Writes replies and grants into records.
 
-ghost use Rattle.ffi.specs.Replies.{answer_reply, distance_number, equipment_record, grant_record, reply_record, short_reply, sign_number};
+ghost use Rattle.ffi.specs.Left.{grant_of};
+ghost use Rattle.ffi.specs.Replies.{answer_reply, done_record, equipment_record, grant_record, reply_record, short_reply};
 ghost use Rattle.std.specs.Prelude.{◌≡◌};
 
 use crate::plain::{GrantRecord, ReplyRecord};
 use model::answer::Answer;
 use model::call::Reply;
 use model::grant::Grant;
+use numbered::Numbered;
 use plans::EquipmentRefusal;
 use strategies::marks::Sign;
+use strategies::rows::DISTANCES;
 
 // The number of no distance.
 const NO_DISTANCE: u64 = 255;
 
-// The number of a sign.
-fn sign_number(sign: Sign) -> u32
-    ensures { result ≡ sign_number sign }
-{
-    match sign {
-        Sign::Plus => 0,
-        Sign::Minus => 1,
+// The reply to a call that was accepted and gives nothing.
+const DONE: ReplyRecord = ReplyRecord {
+    refusal: 0,
+    sign: 0,
+    distance: 0,
+    plus: [0; DISTANCES],
+    minus: [0; DISTANCES],
+    default: [0; DISTANCES],
+    plus_total: 0,
+    minus_total: 0,
+};
+
+impl From<Grant> for GrantRecord {
+    ghost from_gives = { λ grant written. written ≡ grant_record grant };
+
+    // The record of a grant.
+    fn from(grant: Grant) -> GrantRecord {
+        GrantRecord {
+            account: grant.account,
+            item: grant.item,
+            right: grant.right,
+            sign: grant.sign as u32,
+        }
     }
 }
 
-// The record of a grant.
-pub(crate) fn grant_record(grant: Grant) -> GrantRecord
-    ensures { result ≡ grant_record grant }
-{
-    GrantRecord {
-        account: grant.account,
-        item: grant.item,
-        right: grant.right,
-        sign: sign_number(grant.sign),
+impl From<GrantRecord> for Grant {
+    ghost from_gives = { λ written grant. grant ≡ grant_of written };
+
+    // The grant of a record.
+    fn from(written: GrantRecord) -> Grant {
+        Grant {
+            account: written.account,
+            item: written.item,
+            right: written.right,
+            sign: if written.sign == 0 {
+                Sign::Plus
+            } else {
+                Sign::Minus
+            },
+        }
     }
 }
 
@@ -41,65 +66,69 @@ pub(crate) fn short_reply(number: u32, distance: u64) -> ReplyRecord
 {
     ReplyRecord {
         refusal: number,
-        sign: 0,
         distance,
-        plus: [0; 15],
-        minus: [0; 15],
-        default: [0; 15],
-        plus_total: 0,
-        minus_total: 0,
+        ..DONE
     }
 }
 
-// The whole answer of a question.
-fn answer_reply(answer: Answer) -> ReplyRecord
-    ensures { result ≡ answer_reply answer }
-{
-    let plus = answer.plus;
-    let minus = answer.minus;
-    let default = answer.default;
-    ReplyRecord {
-        refusal: 0,
-        sign: sign_number(answer.sign),
-        distance: 0,
-        plus,
-        minus,
-        default,
-        plus_total: answer.plus_total,
-        minus_total: answer.minus_total,
-    }
-}
-
-// The number of a distance.
-fn distance_number(distance: Option<u8>) -> u64
-    ensures { result ≡ distance_number distance }
-{
-    match distance {
-        Some(d) => d as u64,
-        None => NO_DISTANCE,
-    }
-}
-
-// The record of what a call on the book gave.
-pub(crate) fn reply_record(reply: Reply) -> ReplyRecord
-    ensures { result ≡ reply_record reply }
+// The record of what gives nothing unless it is refused.
+fn done_record<R: Numbered>(reply: Result<(), R>) -> ReplyRecord
+    ensures { result ≡ done_record R.Numbered.number_of reply }
 {
     match reply {
-        Reply::Done(Ok(())) => short_reply(0, 0),
-        Reply::Answered(Ok(answer)) => answer_reply(answer),
-        Reply::Distance(Ok(distance)) => short_reply(0, distance_number(distance)),
-        Reply::Done(Err(refusal)) => short_reply(refusal.number(), 0),
-        Reply::Answered(Err(refusal)) => short_reply(refusal.number(), 0),
-        Reply::Distance(Err(refusal)) => short_reply(refusal.number(), 0),
-    }
-}
-
-// The record of what the equipment table gave.
-pub(crate) fn equipment_record(reply: Result<(), EquipmentRefusal>) -> ReplyRecord
-    ensures { result ≡ equipment_record reply }
-{
-    match reply {
-        Ok(()) => short_reply(0, 0),
+        Ok(()) => DONE,
         Err(refusal) => short_reply(refusal.number(), 0),
+    }
+}
+
+impl From<Answer> for ReplyRecord {
+    ghost from_gives = { λ answer reply. reply ≡ answer_reply answer };
+
+    // The whole answer of a question.
+    fn from(answer: Answer) -> ReplyRecord {
+        let Answer {
+            sign,
+            plus,
+            minus,
+            default,
+            plus_total,
+            minus_total,
+        } = answer;
+        ReplyRecord {
+            sign: sign as u32,
+            plus,
+            minus,
+            default,
+            plus_total,
+            minus_total,
+            ..DONE
+        }
+    }
+}
+
+impl From<Reply> for ReplyRecord {
+    ghost from_gives = { λ reply written. written ≡ reply_record reply };
+
+    // The record of what a call on the book gave.
+    fn from(reply: Reply) -> ReplyRecord {
+        match reply {
+            Reply::Done(done) => done_record(done),
+            Reply::Answered(Ok(answer)) => ReplyRecord::from(answer),
+            Reply::Distance(Ok(distance)) => {
+                short_reply(0, distance.map_or(NO_DISTANCE, |d| d as u64))
+            }
+            Reply::Answered(Err(refusal)) | Reply::Distance(Err(refusal)) => {
+                done_record(Err(refusal))
+            }
+        }
+    }
+}
+
+impl From<Result<(), EquipmentRefusal>> for ReplyRecord {
+    ghost from_gives = { λ reply written. written ≡ equipment_record reply };
+
+    // The record of what the equipment table gave.
+    fn from(reply: Result<(), EquipmentRefusal>) -> ReplyRecord {
+        done_record(reply)
     }
 }

@@ -7,13 +7,15 @@ ghost use Rattle.ffi.specs.Runs.{all_replies, at_first, run};
 ghost use Rattle.reader.specs.Sessions.{list_output};
 ghost use Rattle.table.specs.Tables.{Largest};
 
-use crate::memory::{MOST_COUNTS, MOST_GRANTS, copy_first, no_counts, no_grants, write_grants};
+use crate::memory::{MOST_COUNTS, write_first};
 use crate::plain::{CallRecord, GrantRecord, ListRun, ReplyRecord, Run};
-use crate::serving::serve_all;
+use crate::served::Served;
 use book::Book;
-use model::grant::Grant;
+use chains::LENGTHS;
+use model::grant::{Grant, UNWRITTEN};
 use plans::Equipment;
 use reader::running::run_list;
+use records::MOST_GRANTS;
 use std::alloc::Global;
 
 // Makes a book over memory of the library's own, serves the calls, and writes what then stands into the caller's memory.
@@ -35,13 +37,16 @@ fn run_over(
     ensures records { records.new ≡ map grant_record (run result.accounts (min 512 (length records.old)) at_first (take result.calls calls.now)).model.grants ++ drop result.grants records.old }
     ensures grants { result.grants ≡ length (run result.accounts (min 512 (length records.old)) at_first (take result.calls calls.now)).model.grants }
 {
-    let mut book = Book::make(table, grants);
-    let mut equipment = Equipment::new();
-    let made = serve_all(&mut book, &mut equipment, calls, replies);
-    let accounts = book.accounts();
-    copy_first(counts, book.counts(), accounts * accounts * 8);
-    let standing = book.grants();
-    write_grants(records, standing);
+    let mut served = Served {
+        book: Book::make(table, grants),
+        equipment: Equipment::new(),
+    };
+    let made = served.serve_all(calls, replies);
+    let accounts = served.book.accounts();
+    let size = accounts * accounts * LENGTHS;
+    counts[..size].copy_from_slice(&served.book.counts()[..size]);
+    let standing = served.book.grants();
+    write_first(records, standing);
     Run {
         status: 0,
         calls: made as u64,
@@ -70,8 +75,8 @@ pub extern "C" fn ladle_make_and_run(
     ensures records { records.new ≡ map grant_record (run result.accounts (min 512 (length records.old)) at_first (take result.calls calls.now)).model.grants ++ drop result.grants records.old }
     ensures grants { result.grants ≡ length (run result.accounts (min 512 (length records.old)) at_first (take result.calls calls.now)).model.grants }
 {
-    let mut table = no_counts();
-    let mut grants = no_grants();
+    let mut table = [0; MOST_COUNTS];
+    let mut grants = [UNWRITTEN; MOST_GRANTS];
     let size = counts.len().min(MOST_COUNTS);
     let capacity = records.len().min(MOST_GRANTS);
     run_over(
@@ -85,6 +90,7 @@ pub extern "C" fn ladle_make_and_run(
 }
 
 // Writes the output of a list into the caller's memory, if it has room for all of it.
+// The status is a number and not an enum: the caller in C reads it.
 fn write_output(output: &[u8], out: &mut [u8]) -> ListRun
     ensures status { result.status ≤ 1 }
     ensures written { result.status ≡ 0 → out.new ≡ output.now ++ drop (length output.now) out.old }
@@ -98,7 +104,7 @@ fn write_output(output: &[u8], out: &mut [u8]) -> ListRun
             bytes: bytes as u64,
         };
     }
-    copy_first(out, output, bytes);
+    out[..bytes].copy_from_slice(output);
     ListRun {
         status: 0,
         bytes: bytes as u64,

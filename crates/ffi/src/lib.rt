@@ -7,6 +7,7 @@ mod memory;
 mod plain;
 mod request;
 mod requests;
+mod served;
 mod serving;
 
 pub use exports::{ladle_make_and_run, ladle_run_list};

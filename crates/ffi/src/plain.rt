@@ -1,5 +1,7 @@
 //! How grants, calls, replies and what a run came to are laid out in memory that a caller in C lends.
 
+use strategies::rows::DISTANCES;
+
 /// A grant. The sign is 0 for plus and 1 for minus.
 #[repr(C)]
 #[derive(Clone, Copy)]
@@ -35,9 +37,9 @@ pub struct ReplyRecord {
     pub refusal: u32,
     pub sign: u32,
     pub distance: u64,
-    pub plus: [u64; 15],
-    pub minus: [u64; 15],
-    pub default: [u64; 15],
+    pub plus: [u64; DISTANCES],
+    pub minus: [u64; DISTANCES],
+    pub default: [u64; DISTANCES],
     pub plus_total: u64,
     pub minus_total: u64,
 }

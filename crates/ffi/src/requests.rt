@@ -1,15 +1,19 @@
 //! Reads records of calls.
 
-ghost use Rattle.ffi.specs.Requests.{call_of, container_of, give_of, least_of, over, quick_of, request_of, sign_of, walked_of};
+ghost use Rattle.ffi.specs.Requests.{access_of, call_of, container_of, give_of, over, request_of, sign_of};
 ghost use Rattle.ffi.specs.Strategies.{strategy_with};
 ghost use Rattle.std.specs.Prelude.{◌≡◌};
 
 use crate::plain::CallRecord;
 use crate::request::Request;
+use model::access::Access;
 use model::call::Call;
 use model::grant::Grant;
 use strategies::marks::Sign;
 use strategies::strategy::Strategy;
+
+// Functions and not `From` or `TryFrom`: of a number and a sign, or a number and a container, neither type is this crate's own,
+// and of a record that asks for nothing an error would say no more than that.
 
 // The number that stands for no container.
 const NO_CONTAINER: u32 = 4_294_967_295;
@@ -29,75 +33,43 @@ fn sign_of(number: u32) -> Option<Sign>
 fn container_of(number: u32) -> Option<u32>
     ensures { result ≡ container_of number }
 {
-    if number == NO_CONTAINER {
-        None
-    } else {
-        Some(number)
-    }
+    (number != NO_CONTAINER).then_some(number)
 }
 
-// The strategy with the number, if there is one.
+// The strategy with the number, if there is one: `numbered` by the list of strategies, and not by what their numbers are.
 fn strategy_with(number: u32) -> Option<Strategy>
     ensures { result ≡ strategy_with number }
 {
     Strategy::numbered(number)
 }
 
+// What a record that withdraws or asks is for.
+fn access_of(written: CallRecord) -> Access
+    ensures { result ≡ access_of written }
+{
+    Access {
+        account: written.first,
+        item: written.second,
+        right: written.third,
+    }
+}
+
 // A grant to be given.
 fn give_of(written: CallRecord) -> Option<Call>
     ensures { result ≡ give_of written }
 {
-    let sign = sign_of(written.fourth)?;
     Some(Call::Give {
         grant: Grant {
             account: written.first,
             item: written.second,
             right: written.third,
-            sign,
+            sign: sign_of(written.fourth)?,
         },
     })
 }
 
-// The question for the least distance.
-fn least_of(written: CallRecord) -> Option<Call>
-    ensures { result ≡ least_of written }
-{
-    let sign = sign_of(written.fourth)?;
-    Some(Call::Least {
-        account: written.first,
-        item: written.second,
-        right: written.third,
-        sign,
-    })
-}
-
-// The quick question.
-fn quick_of(written: CallRecord) -> Option<Call>
-    ensures { result ≡ quick_of written }
-{
-    let strategy = strategy_with(written.fourth)?;
-    Some(Call::Quick {
-        account: written.first,
-        item: written.second,
-        right: written.third,
-        strategy,
-    })
-}
-
-// The walked question.
-fn walked_of(written: CallRecord) -> Option<Call>
-    ensures { result ≡ walked_of written }
-{
-    let strategy = strategy_with(written.fourth)?;
-    Some(Call::Walked {
-        account: written.first,
-        item: written.second,
-        right: written.third,
-        strategy,
-    })
-}
-
 // The call on the book that a record names, if it names one.
+// A match on the number and not on an enum of kinds: making the enum would be a second match.
 fn call_of(written: CallRecord) -> Option<Call>
     ensures { result ≡ call_of written }
 {
@@ -112,18 +84,25 @@ fn call_of(written: CallRecord) -> Option<Call>
         }),
         2 => give_of(written),
         3 => Some(Call::Withdraw {
-            account: written.first,
-            item: written.second,
-            right: written.third,
+            access: access_of(written),
         }),
-        4 => quick_of(written),
-        5 => walked_of(written),
-        6 => least_of(written),
+        4 => Some(Call::Quick {
+            access: access_of(written),
+            strategy: strategy_with(written.fourth)?,
+        }),
+        5 => Some(Call::Walked {
+            access: access_of(written),
+            strategy: strategy_with(written.fourth)?,
+        }),
+        6 => Some(Call::Least {
+            access: access_of(written),
+            sign: sign_of(written.fourth)?,
+        }),
         _ => None,
     }
 }
 
-// The call over the plan with the number, if there is one.
+// The call over the plan with the number, if there is one. The number is matched as a kind is.
 fn over(plan: u32, call: Call) -> Option<Request>
     ensures { result ≡ over plan call }
 {

@@ -7,6 +7,8 @@ use Rattle.chains.specs.Tests.{too_long, too_many}
 use Rattle.model.specs.Grants.{misfit, repeated}
 use Rattle.model.specs.Model.{Model}
 use Rattle.model.specs.declared.grant.Grant.{Grant}
+use Rattle.book.specs.Books.{accounts_of, capacity_in, shown}
+use Rattle.book.specs.declared.books.Book.{Book}
 
 -- what stands by the counts of n accounts and the grants
 abbrev pub said_by : ℕ → List ℕ → List Grant → Model
@@ -24,3 +26,8 @@ pub record LeftByABook (n capacity : ℕ) (counts : List ℕ) (gs : List Grant) 
 -- the memberships in the groups below g, and of the members below m in g
 unfoldable pub before : Members → ℕ → ℕ → Members
 before E g m p c = E p c && (nat_lt p g || (p == g && nat_lt c m))
+
+-- the second book has the grants, the accounts and the room of the first
+abbrev pub OnlyMembersChange : Book → Book → Type 0
+OnlyMembersChange old new =
+    ((shown new).grants ≡ (shown old).grants) × (accounts_of new ≡ accounts_of old) × (capacity_in new ≡ capacity_in old)

@@ -2,8 +2,10 @@
 //! book that was just made.
 #![tactic(auto)]
 
+mod refusing;
 mod regranting;
 mod rejoining;
 mod restoring;
 
+pub use refusing::NotLeftByABook;
 pub use restoring::restore;

@@ -1,7 +1,7 @@
-use Rattle.std.proofs.Common.{◌≡◌, ℕ, List, length, take, sym, refl, ap, ◌∙◌, subst, true≢false, arith}
+use Rattle.std.proofs.Common.{◌≡◌, ℕ, List, length, take, sym, ap, ◌∙◌, subst, rules, arith}
 use Rattle.lists.specs.Lists.{some}
 use Rattle.chains.specs.Chains.{Sound}
-use Rattle.chains.specs.Table.{Holds, shown_members, size, table_of}
+use Rattle.chains.specs.Table.{shown_members, size, table_of}
 use Rattle.chains.specs.Tests.{too_long, too_many}
 use Rattle.chains.proofs.Limits.{sound_by_tests}
 use Rattle.chains.proofs.Shows.{shown_within}
@@ -9,10 +9,11 @@ use Rattle.table.specs.Tables.{members_in}
 use Rattle.table.specs.declared.tables.Table.{Table}
 use Rattle.model.specs.Grants.{misfit, repeated}
 use Rattle.model.specs.Model.{Model}
-use Rattle.book.specs.Books.{accounts_of, counts_in}
+use Rattle.book.specs.Books.{accounts_of, capacity_in, counts_in}
 use Rattle.book.specs.declared.books.Book.{Book}
 use Rattle.book.proofs.Asked.{standing}
-use Rattle.saved.specs.Saved.{before}
+use Rattle.saved.specs.Saved.{LeftByABook, before}
+use Rattle.saved.proofs.Accepted.{on_err}
 use Rattle.saved.proofs.Before.{before_all, before_none}
 use Rattle.saved.proofs.restoring.restore.Goals as goal
 
@@ -22,7 +23,7 @@ module _ (n N : ℕ) (t : List ℕ) (b : Book) (en : n ≡ N) (eb : accounts_of 
   shows_them = all ∙ before_all n (shown_members n t) (shown_within n t) ∙ ap (λ (k : ℕ). shown_members k t) en
 
   table_is : take (size N) (counts_in b) ≡ table_of N (shown_members N t)
-  table_is = ap (λ (k : ℕ). take (size k) (counts_in b)) (sym eb) ∙ b.counts ∙ (λ i. table_of (eb i) (shows_them i))
+  table_is = ap (λ (k : ℕ). take (size k) (counts_in b)) (sym eb) ∙ b.table.laid ∙ (λ i. table_of (eb i) (shows_them i))
 
   short_is : too_long N (shown_members N t) ≡ too_long (accounts_of b) (members_in b.table)
   short_is = λ i. too_long (sym eb i) (sym shows_them i)
@@ -30,84 +31,80 @@ module _ (n N : ℕ) (t : List ℕ) (b : Book) (en : n ≡ N) (eb : accounts_of 
   few_is : too_many N (shown_members N t) ≡ too_many (accounts_of b) (members_in b.table)
   few_is = λ i. too_many (sym eb i) (sym shows_them i)
 
-pub rejoin-requires : goal.rejoin-requires
-rejoin-requires c =
-    let t = c.args.counts.now in
-    record {
-      accounts = sym c.accounts-n.ensures;
-      holds = subst (λ (k : ℕ). Holds k t) (sym c.accounts-n.ensures) c.requires.holds;
-      none = ap (λ (M : Model). M.members) c.requires.made ∙ before_none (shown_members c.accounts-n.result t);
-    }
+pub rejoin-requires-clause-none : goal.rejoin-requires-clause-none
+rejoin-requires-clause-none c = ap (λ (M : Model). M.members) c.requires.made ∙ before_none (shown_members c.accounts-accounts.result c.args.counts.now)
 
-pub returns-then-not-rejoin : goal.returns-then-not-rejoin
-returns-then-not-rejoin c =
-    let told = c.if-not-rejoin.ensures in
+pub returns-in_err-rejoin-clause-failed : goal.returns-in_err-rejoin-clause-failed
+returns-in_err-rejoin-clause-failed c =
     let t = c.args.counts.now in
     let N = accounts_of c.args.book.now in
-    record {
-      done = λ e. absurd (true≢false (sym e));
-      left = λ e. absurd (true≢false (sym e));
-      failed = λ _ left.
-          told.failed refl
-          (subst (λ (k : ℕ). Sound k (shown_members k t)) (sym c.accounts-n.ensures)
-          ((sound_by_tests N (shown_members N t) (shown_within N t)).1 (left.short, left.few)));
-      same = (told.same.1, told.same.2);
-    }
+    let failed : LeftByABook N (capacity_in c.args.book.now) t c.args.grants.now → ⊥ = λ left.
+    c.in_err-rejoin.ensures.failed
+    (subst (λ (k : ℕ). Sound k (shown_members k t)) (sym c.accounts-accounts.ensures)
+    ((sound_by_tests N (shown_members N t) (shown_within N t)).1 (left.short, left.few))) in
+    on_err _ _ failed
 
-pub returns-then-not-same_first : goal.returns-then-not-same_first
-returns-then-not-same_first c =
-    let told = c.if-not-same_first.ensures in
-    let joined = c.if-not-rejoin.ensures in
+pub returns-then-ne-clause-failed : goal.returns-then-ne-clause-failed
+returns-then-ne-clause-failed c left =
+    let joined = c.in_ok-rejoin.ensures in
     let t = c.args.counts.now in
-    let n = c.accounts-n.result in
+    let n = c.accounts-accounts.result in
     let N = accounts_of c.args.book.now in
     let b = c.rejoin.new.book in
-    let en : n ≡ N = c.accounts-n.ensures in
-    record {
-      done = λ e. absurd (true≢false (sym e));
-      left = λ e. absurd (true≢false (sym e));
-      failed = λ _ left.
-          told.no refl
-          (ap (λ (k : ℕ). take (size k) t) en
-          ∙ left.table
-          ∙ sym (table_is n N t b en joined.same.1 (joined.done refl))
-          ∙ ap (λ (k : ℕ). take (size k) (counts_in b)) (sym en)
-          ∙ ap (take (size n)) (sym c.counts.ensures));
-      same = (joined.same.1, joined.same.2);
+    let en : n ≡ N = c.accounts-accounts.ensures in
+    let differ : take (size n) t ≡ take (size n) c.counts.result.now → ⊥ = search rules in
+    differ
+    (ap (λ (k : ℕ). take (size k) t) en
+    ∙ left.table
+    ∙ sym (table_is n N t b en joined.same.1 joined.done)
+    ∙ ap (λ (k : ℕ). take (size k) (counts_in b)) (sym en)
+    ∙ ap (take (size n)) (sym c.counts.ensures))
+
+pub returns-clause-done : goal.returns-clause-done
+returns-clause-done c =
+    let joined = c.in_ok-rejoin.ensures in
+    let told = c.in_ok-regrant.ensures in
+    λ i. record {
+      members =
+          (ap members_in told.same.0
+          ∙ shows_them c.accounts-accounts.result (accounts_of c.args.book.now) c.args.counts.now c.rejoin.new.book c.accounts-accounts.ensures joined.same.1 joined.done) i;
+      grants = told.done i;
     }
 
-pub returns : goal.returns
-returns c =
-    let told = c.regrant.ensures in
-    let joined = c.if-not-rejoin.ensures in
-    let compared = c.if-not-same_first.ensures in
+pub returns-clause-left : goal.returns-clause-left
+returns-clause-left c =
+    let told = c.in_ok-regrant.ensures in
+    let joined = c.in_ok-rejoin.ensures in
     let t = c.args.counts.now in
-    let gs = c.args.grants.now in
-    let n = c.accounts-n.result in
+    let n = c.accounts-accounts.result in
     let N = accounts_of c.args.book.now in
     let b = c.rejoin.new.book in
     let last = c.regrant.new.book in
-    let en : n ≡ N = c.accounts-n.ensures in
+    let en : n ≡ N = c.accounts-accounts.ensures in
     let eb : accounts_of b ≡ N = joined.same.1 in
     let el : accounts_of last ≡ N = ap (λ (x : Table). x.accounts) told.same.0 ∙ eb in
-    let all = joined.done refl in
+    let all = joined.done in
+    let agree : take (size n) t ≡ take (size n) c.counts.result.now = search rules in
     record {
-      done = λ e i. record { members = (ap members_in told.same.0 ∙ shows_them n N t b en eb all) i; grants = told.done e i };
-      left = λ e. record {
-        table =
-            ap (λ (k : ℕ). take (size k) t) (sym en)
-            ∙ compared.yes refl
-            ∙ ap (take (size n)) c.counts.ensures
-            ∙ ap (λ (k : ℕ). take (size k) (counts_in b)) en
-            ∙ table_is n N t b en eb all;
-        short = short_is n N t b en eb all ∙ b.short;
-        few = few_is n N t b en eb all ∙ b.few;
-        room = let few = (standing last).room in let many = ap length (told.done e) in let first = told.same.1 in let second = joined.same.2 in omega arith;
-        fitting = (λ i. some (misfit (sym el i)) (sym (told.done e) i)) ∙ last.fitting;
-        once = ap repeated (sym (told.done e)) ∙ last.once;
-      };
-      failed = λ e left.
-          told.failed e (let few = left.room in let second = joined.same.2 in omega arith)
-          (ap (λ (k : ℕ). some (misfit k) gs) eb ∙ left.fitting) left.once;
-      same = (el, told.same.1 ∙ joined.same.2);
+      table =
+          ap (λ (k : ℕ). take (size k) t) (sym en)
+          ∙ agree
+          ∙ ap (take (size n)) c.counts.ensures
+          ∙ ap (λ (k : ℕ). take (size k) (counts_in b)) en
+          ∙ table_is n N t b en eb all;
+      short = short_is n N t b en eb all ∙ b.table.short;
+      few = few_is n N t b en eb all ∙ b.table.few;
+      room = let few = (standing last).room in let many = ap length told.done in let first = told.same.1 in let second = joined.same.2 in omega arith;
+      fitting = (λ i. some (misfit (sym el i)) (sym told.done i)) ∙ (standing last).fitting;
+      once = ap repeated (sym told.done) ∙ (standing last).once;
     }
+
+pub returns-in_err-regrant-clause-failed : goal.returns-in_err-regrant-clause-failed
+returns-in_err-regrant-clause-failed c =
+    let joined = c.in_ok-rejoin.ensures in
+    let N = accounts_of c.args.book.now in
+    let gs = c.args.grants.now in
+    let failed : LeftByABook N (capacity_in c.args.book.now) c.args.counts.now gs → ⊥ = λ left.
+    c.in_err-regrant.ensures.failed (let few = left.room in let second = joined.same.2 in omega arith)
+    (ap (λ (k : ℕ). some (misfit k) gs) joined.same.1 ∙ left.fitting) left.once in
+    on_err _ _ failed
