@@ -1,26 +1,57 @@
--- How many marks can reach a question. Assumes nothing.
-use Rattle.std.proofs.Common.{◌≡◌, ℕ, ◌<◌, ◌≤◌, List, length, sym, ap, ◌∙◌, subst, arith}
+-- Questions that are refused or accepted, and how many marks can reach one. Assumes nothing.
+use Rattle.std.proofs.Common.{◌≡◌, ℕ, ◌<◌, ◌≤◌, List, map, length, Ok, Err, Option, sym, ap, ◌∙◌, subst, arith}
 use Rattle.std.proofs.lemmas.List.{length-take-le}
-use Rattle.lists.specs.Lists.{some}
+use Rattle.lists.specs.Lists.{keep, some}
 use Rattle.plans.specs.Items.{Items, Lawful}
-use Rattle.strategies.specs.Rows.{CountsOf}
+use Rattle.strategies.specs.Rows.{CountsOf, same_mark}
 use Rattle.strategies.specs.declared.marks.Arrival.{Arrival}
+use Rattle.strategies.specs.declared.marks.Sign.{Sign}
+use Rattle.strategies.specs.declared.marks.Mark.TheVariants.{Signed}
+use Rattle.strategies.specs.declared.strategy.Strategy.{Strategy}
 use Rattle.strategies.specs.declared.rows.Rows.{Rows}
 use Rattle.model.specs.Grants.{misfit}
-use Rattle.model.specs.Question.{listing}
+use Rattle.model.specs.Model.{Model}
+use Rattle.model.specs.Question.{answer_of, asked, least_asked, listing, nearest_of, question_checks, question_outcome}
+use Rattle.model.specs.Refusals.{Outcome, checks, where_answered}
 use Rattle.model.specs.RunLaws.{Standing}
 use Rattle.model.specs.declared.answer.Answer.{Answer}
 use Rattle.model.specs.declared.grant.Grant.{Grant}
+use Rattle.model.specs.declared.refusal.Refusal.{Refusal}
 use Rattle.chains.proofs.Limits.{sound_by_tests}
 use Rattle.model.proofs.Bounds.{listed_few}
 use Rattle.records.specs.Records.{standing_in}
-use Rattle.table.specs.Tables.{members_in}
+use Rattle.table.specs.Tables.{SoundTable, members_in}
 use Rattle.table.specs.declared.tables.Table.{Table}
-use Rattle.table.proofs.Sound.{within}
+use Rattle.table.proofs.Sound.{sound_table, within}
 use Rattle.book.specs.declared.books.Book.{Book}
 use Rattle.book.specs.Books.{accounts_of, capacity_in, shown}
 
+module _ (n : ℕ) (M : Model) (I : Items) (s o r : ℕ) (t : Strategy) where
+  pub asked_refused : (e : Refusal) → Err e ≡ checks (question_checks n I s o r) → Err e ≡ asked n M I s o r t
+  unfolding asked question_outcome
+  asked_refused e is = ap (λ (x : Outcome). where_answered x (answer_of t (listing n M I s o r))) is
+
+  pub asked_accepted : (a : Answer) → Ok tt ≡ checks (question_checks n I s o r) → a ≡ answer_of t (listing n M I s o r) → Ok a ≡ asked n M I s o r t
+  unfolding asked question_outcome
+  asked_accepted a is e = ap Ok e ∙ ap (λ (x : Outcome). where_answered x (answer_of t (listing n M I s o r))) is
+
+-- the least distance of an arrival of the sign in a listing
+abbrev pub first : ℕ → Model → Items → ℕ → ℕ → ℕ → Sign → Option ℕ
+first n M I s o r t = nearest_of (map (λ a. a.distance) (keep (λ a. same_mark (Signed t) a.mark) (listing n M I s o r)))
+
+module _ (n : ℕ) (M : Model) (I : Items) (s o r : ℕ) (t : Sign) where
+  pub least_refused : (e : Refusal) → Err e ≡ checks (question_checks n I s o r) → Err e ≡ least_asked n M I s o r t
+  unfolding least_asked question_outcome
+  least_refused e is = ap (λ (x : Outcome). where_answered x (first n M I s o r t)) is
+
+  pub least_accepted : (d : Option ℕ) → Ok tt ≡ checks (question_checks n I s o r) → d ≡ first n M I s o r t → Ok d ≡ least_asked n M I s o r t
+  unfolding least_asked question_outcome
+  least_accepted d is e = ap Ok e ∙ ap (λ (x : Outcome). where_answered x (first n M I s o r t)) is
+
 -- what every book's invariant says, in the model's words
+pub table_sound : (b : Book) → SoundTable b.table
+table_sound b = sound_table b.table
+
 pub standing : (b : Book) → Standing (accounts_of b) (capacity_in b) (shown b)
 standing b = record {
   sound = (sound_by_tests (accounts_of b) (members_in b.table) (within b.table)).1 (b.table.short, b.table.few);

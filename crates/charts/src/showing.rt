@@ -34,7 +34,8 @@ fn print_pair(rt: &HostRuntime, letter: char, group: u32, member: u32) -> io::Re
 
 // The line that chooses a strategy, its name at the right.
 fn print_strategy(rt: &HostRuntime, strategy: Strategy) -> io::Result<()> {
-    println!(rt; "S{strategy:>17}")
+    let blanks = 17usize.saturating_sub(strategy.name().len());
+    println!(rt; "S{:>blanks$}{strategy}", "")
 }
 
 // A container's five columns.

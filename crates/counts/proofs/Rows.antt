@@ -53,6 +53,12 @@ module _ (t down : List ℕ) (n b s : ℕ) (e : down ≡ row t n b s) where
   pub row_is : (k : ℕ) → k < 8 → at_of down k ≡ entry t n b s k
   row_is k h = ap (λ xs. get_or xs k 0) e ∙ get_or_row t n b s k h
 
+  pub through_row : (up : ℕ → ℕ) (k : ℕ) → k < 8 → through up (at_of down) k ≡ through up (entry t n b s) k
+  through_row up k h = through_same up (at_of down) up (entry t n b s) k (λ i lt. refl) (λ i lt. row_is i (omega arith))
+
+  pub through_up_row : (below : ℕ → ℕ) (k : ℕ) → k < 8 → through (at_of down) below k ≡ through (entry t n b s) below k
+  through_up_row below k h = through_same (at_of down) below (entry t n b s) below k (λ i lt. row_is i (omega arith)) (λ i lt. refl)
+
   pub row_low : LowTable n t → b < n → s < n → Low down
   row_low low hb hs k h = omega (arith, row_is k h, low b s k hb hs h)
 

@@ -21,6 +21,7 @@ pub trait Change {
 }
 
 /// A membership is made.
+#[derive(Clone, Copy)]
 pub struct Add;
 
 impl Change for Add {
@@ -32,6 +33,7 @@ impl Change for Add {
 }
 
 /// A membership ends.
+#[derive(Clone, Copy)]
 pub struct Strike;
 
 impl Change for Strike {
@@ -87,6 +89,8 @@ fn change_line<C: Change>(counts: &mut [u32], n: usize, a: usize, c: usize, up: 
 }
 
 /// Changes all counts by the chains past the membership of `c` in `p`.
+// A function of its own in the program too: its loops want all registers, and where a join's tests are inlined beside them, they are slower by a quarter.
+#[inline(never)]
 pub fn change_all<C: Change>(counts: &mut [u32], n: usize, p: usize, c: usize)
     requires table { Holds n counts.old }
     requires group { p < n }

@@ -28,10 +28,12 @@ impl<'a> Counts<'a> {
         ensures above { (s : ℕ) → s < self.entry.accounts → (k : ℕ) → result < k → k < 8 → count_of self.entry c s k ≡ 0 }
         ensures some { 0 < result → (s : ℕ) × (s < self.entry.accounts) × (0 < count_of self.entry c s result) }
     {
-        // A loop and not a chain: `longest` is told by cases, and of `max` or `fold` over it the proof is longer than the invariant here.
+        // A loop and not a chain: an account is looked at only beyond the length that those before it came to.
         let mut most = 0;
         for s in 0..self.accounts {
-            most = most.max(self.longest(c, s));
+            if self.leads_by(c, s, most + 1) {
+                most = self.longest(c, s);
+            }
         }
         most
     }

@@ -1,2 +1,3 @@
+mod Largest
 mod Running
 mod Strategies

@@ -7,7 +7,7 @@ ghost use Rattle.ffi.specs.Runs.{all_replies, at_first, run};
 ghost use Rattle.reader.specs.Sessions.{list_output};
 ghost use Rattle.table.specs.Tables.{Largest};
 
-use crate::memory::{MOST_COUNTS, write_first};
+use crate::memory::{MOST_COUNTS, copy_first, write_first};
 use crate::plain::{CallRecord, GrantRecord, ListRun, ReplyRecord, Run};
 use crate::served::Served;
 use book::Book;
@@ -44,7 +44,7 @@ fn run_over(
     let made = served.serve_all(calls, replies);
     let accounts = served.book.accounts();
     let size = accounts * accounts * LENGTHS;
-    counts[..size].copy_from_slice(&served.book.counts()[..size]);
+    copy_first(counts, served.book.counts(), size);
     let standing = served.book.grants();
     write_first(records, standing);
     Run {
@@ -104,7 +104,7 @@ fn write_output(output: &[u8], out: &mut [u8]) -> ListRun
             bytes: bytes as u64,
         };
     }
-    out[..bytes].copy_from_slice(output);
+    copy_first(out, output, bytes);
     ListRun {
         status: 0,
         bytes: bytes as u64,

@@ -1,6 +1,6 @@
 //! Memory of the library's own for a book, and what of it is written into the caller's.
 
-ghost use Rattle.std.specs.Prelude.{◌≡◌, ◌≤◌, length, take, drop};
+ghost use Rattle.std.specs.Prelude.{◌≡◌, ◌≤◌, ◌++◌, length, take, drop};
 ghost use Rattle.std.specs.List.{AllZip};
 ghost use Rattle.ffi.specs.Left.{bad_sign};
 ghost use Rattle.lists.specs.Lists.{some};
@@ -10,6 +10,17 @@ use chains::{LENGTHS, MOST_ACCOUNTS};
 
 /// The counts of the most accounts that a book knows.
 pub const MOST_COUNTS: usize = MOST_ACCOUNTS * MOST_ACCOUNTS * LENGTHS;
+
+// Copies the first elements, as many as are named.
+pub(crate) fn copy_first<T: Copy>(to: &mut [T], from: &[T], many: usize)
+    requires { (many ≤ length to.old) × (many ≤ length from.now) }
+    ensures { to.new ≡ take many from.now ++ drop many to.old }
+{
+    // A loop by place and not `copy_from_slice`: for that the static library would need `memmove` from outside.
+    for i in 0..many {
+        to[i] = from[i];
+    }
+}
 
 // Writes what the elements give into the first places.
 pub(crate) fn write_first<T: Copy, R: Copy + From<T>>(to: &mut [R], from: &[T])

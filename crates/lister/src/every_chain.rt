@@ -6,6 +6,9 @@ use std::alloc::{AllocError, Global};
 /// How many lengths are listed, 0 to 8: a chain has at most seven memberships, and one more is walked so that a longer one is seen.
 pub const LISTED: usize = 9;
 
+// No account has more members than there are accounts, and no item more containers than that.
+const MOST_ONWARD: usize = 64;
+
 /// A chain that was walked: where it ends, and how long it is.
 #[derive(Clone, Copy, PartialEq, Eq, Debug)]
 pub struct Chain {
@@ -14,7 +17,7 @@ pub struct Chain {
 }
 
 // Lists the chain that has come to `at`, and then each that goes on from there, depth first.
-fn walk<F: Fn(u32) -> Result<Vec<u32>, AllocError>>(
+fn walk<F: Fn(u32, usize) -> Option<u32>>(
     onward: &F,
     at: u32,
     length: usize,
@@ -24,15 +27,15 @@ fn walk<F: Fn(u32) -> Result<Vec<u32>, AllocError>>(
 {
     found.push(Chain { end: at, length })?;
     if length < LISTED - 1 {
-        for next in onward(at)?.iter() {
-            walk(onward, *next, length + 1, found)?;
+        for next in (0..MOST_ONWARD).map_while(|place| onward(at, place)) {
+            walk(onward, next, length + 1, found)?;
         }
     }
     Ok(())
 }
 
-/// Every chain from `from` on, that of length 0 first; `onward` lists the numbers that are one step further on.
-pub fn chains_over<F: Fn(u32) -> Result<Vec<u32>, AllocError>>(
+/// Every chain from `from` on, that of length 0 first; `onward` tells the numbers that are one step further on, by their places from 0 on.
+pub fn chains_over<F: Fn(u32, usize) -> Option<u32>>(
     heap: Global,
     onward: F,
     from: u32,
@@ -46,6 +49,6 @@ pub fn chains_over<F: Fn(u32) -> Result<Vec<u32>, AllocError>>(
 
 /// Every chain up from an item over its containers, that of length 0 first.
 pub fn item_chains<P: Plan>(heap: Global, plan: &P, item: u32) -> Result<Vec<Chain>, AllocError> {
-    let onward = |at| plan.containers(at).into_iter().flatten().collect(heap);
+    let onward = |at: u32, place: usize| plan.containers(at).into_iter().flatten().nth(place);
     chains_over(heap, onward, item)
 }

@@ -49,7 +49,7 @@ impl Lister {
 
     /// Every chain from the account, that of length 0 first.
     pub fn chains_from(&self, account: u32) -> Result<Vec<Chain>, AllocError> {
-        let onward = |at| Vec::from_slice(self.heap, self.members_of(at));
+        let onward = |at: u32, place: usize| self.members_of(at).get(place).copied();
         chains_over(self.heap, onward, account)
     }
 

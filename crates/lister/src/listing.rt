@@ -8,7 +8,9 @@ use model::answer::Answer;
 use plans::Plan;
 use std::alloc::AllocError;
 use strategies::marks::{Arrival, Mark, Sign};
-use strategies::rows::DISTANCES;
+
+// Distances are 0 to 14: a number of the lister's own, to be compared with the book's.
+const DISTANCES: usize = 15;
 
 impl Lister {
     // Adds a row for each chain from the account to `to`, at its length and so much more.

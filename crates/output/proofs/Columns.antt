@@ -1,16 +1,16 @@
 -- What is written of a number in its columns, and of an outcome. Assumes nothing.
-use Rattle.std.proofs.Common.{◌≡◌, ℕ, zero, suc, ◌-◌, false, eqb, List, [], ◌∷◌, ◌++◌, length, replicate, decimal, sym, refl, ap, ◌∙◌, ap₂, ⊎_elim, arith, append-nil}
+use Rattle.std.proofs.Common.{◌≡◌, ℕ, zero, suc, ◌+◌, ◌-◌, ◌/◌, ◌%◌, ◌^◌, ◌<◌, ◌≤◌, false, eqb, List, [], ◌∷◌, ◌++◌, length, replicate, decimal, sym, refl, ap, ◌∙◌, ap₂, ⊎_elim, arith, append-nil, length-append}
 use Rattle.std.specs.List.{repeat}
 use Rattle.std.specs.Fmt.{format_spec, char_count, padded_integral, styled_decimal}
 use Rattle.std.proofs.lemmas.Bool.{cases_Bool, eqb-true}
 use lib.Utf8.{encode}
-use Rattle.std.proofs.lemmas.Fmt.{decimal_digit}
+use Rattle.std.proofs.lemmas.Fmt.{decimal_digit, decimal_nonempty, decimal_step}
 use Rattle.strategies.specs.declared.marks.Sign.{Sign}
-use Rattle.lines.specs.declared.faults.LineFault.{LineFault}
-use Rattle.lines.specs.FaultNumbers.{fault_number, fault_column}
 use Rattle.lines.specs.Writing.{sign_byte}
 use Rattle.output.specs.declared.outcome.Outcome.{Outcome}
 use Rattle.output.specs.declared.outcome.Outcome.TheVariants.{Done, Refused, Faulty, Answered}
+use Rattle.lines.specs.declared.faults.LineFault.{LineFault}
+use Rattle.lines.specs.FaultNumbers.{fault_number, fault_column}
 use Rattle.output.specs.Output.{sign_and_totals, outcome_bytes}
 use Rattle.fields.specs.Spelling.{right_justified, spelled}
 
@@ -42,6 +42,28 @@ justified w n =
 
 pub laid : (s : _) (w n : ℕ) → s ≡ format_spec 32 3 0 w 18446744073709551615 → styled_decimal s n ≡ spelled w n
 laid s w n is = ap (λ s. styled_decimal s n) is ∙ justified w n
+
+-- one digit, two, and more
+pub two_blanks : (n : ℕ) → n < 10 → ◌≡◌ {A = List ℕ} (32 ∷ 32 ∷ []) (replicate (3 - length (decimal n)) 32)
+two_blanks n few = let one : 2 ≡ 3 - length (decimal n) = omega (arith, ap length (decimal_digit n few)) in ap (λ (k : ℕ). replicate {A = ℕ} k 32) one
+
+more_digits : (n : ℕ) → 10 ≤ n → n < 2 ^ 64 → length (decimal n) ≡ length (decimal (n / 10)) + 1
+more_digits n more small = ap length (decimal_step n more small) ∙ length-append (decimal (n / 10)) ((48 + n % 10) ∷ [])
+
+pub one_blank : (n : ℕ) → 10 ≤ n → n < 100 → ◌≡◌ {A = List ℕ} (32 ∷ []) (replicate (3 - length (decimal n)) 32)
+one_blank n more few =
+    let long = more_digits n more (omega arith) in
+    let first = ap length (decimal_digit (n / 10) (omega arith)) in
+    let one : 1 ≡ 3 - length (decimal n) = omega arith in
+    ap (λ (k : ℕ). replicate {A = ℕ} k 32) one
+
+pub no_blank : (n : ℕ) → 100 ≤ n → n < 2 ^ 64 → ◌≡◌ {A = List ℕ} [] (replicate (3 - length (decimal n)) 32)
+no_blank n more small =
+    let long = more_digits n (omega arith) small in
+    let front = more_digits (n / 10) (omega arith) (omega arith) in
+    let some = decimal_nonempty (n / 10 / 10) (omega arith) in
+    let none : 0 ≡ 3 - length (decimal n) = omega arith in
+    ap (λ (k : ℕ). replicate {A = ℕ} k 32) none
 
 -- a zero in three columns
 zero_column : 32 ∷ 32 ∷ 48 ∷ [] ≡ spelled 3 0

@@ -1,6 +1,6 @@
 -- What the equipment table knows, and what adding to it answers. Assumes nothing.
 use Rattle.std.proofs.Common.{◌≡◌, ℕ, zero, suc, ◌<◌, ◌≤◌, min, max, Bool, true, false, cond, not, ◌&&◌, ◌||◌, eqb, ltb, ◌⊎◌, List, [], ◌∷◌, length, Some, None, Ok, Err, Option, Result, sym, refl, ap, ◌∙◌, inl, inr, arith}
-use Rattle.std.proofs.lemmas.Bool.{lt-ltb, le-ltb, eq-eqb, ne_eqb, cases_lt}
+use Rattle.std.proofs.lemmas.Bool.{lt-ltb, le-ltb, eq-eqb, ne_eqb, cases_lt, cond-false}
 use Rattle.std.specs.Option.{option_to_list}
 use Rattle.lists.specs.Lists.{keep, below}
 use Rattle.lists.proofs.Kept.{one, kept_append, kept_cons}
@@ -8,12 +8,17 @@ use Rattle.plans.specs.declared.place.Place.{Place}
 use Rattle.plans.specs.declared.refusal.EquipmentRefusal.{EquipmentRefusal}
 use Rattle.plans.specs.declared.refusal.EquipmentRefusal.TheVariants.{NotNext, BadContainer, TooHigh}
 use Rattle.plans.specs.Items.{Items, tallest, height_of}
-use Rattle.plans.specs.Equipment.{both, equipment, all_below, twice}
-use Rattle.plans.specs.Filling.{next_number, some_unknown, add_answer}
+use Rattle.plans.specs.Equipment.{both, containers_at, equipment, all_below, twice}
+use Rattle.plans.specs.Filling.{no_items, next_number, some_unknown, add_answer}
 
 -- plans that know the same items, with the same containers, are the same
 pub same_plan : (M N : Items) → ((n : ℕ) → M.known n ≡ N.known n) → ((n : ℕ) → M.containers n ≡ N.containers n) → M ≡ N
 same_plan M N p q = λ i. record { known = λ n. p n i; containers = λ n. q n i }
+
+pub none_filled : (places : List Place) → equipment places 0 ≡ no_items
+none_filled places =
+    same_plan (equipment places 0) no_items (λ n. le-ltb n 0 (omega arith))
+    (λ n. cond-false (ltb n 0) (containers_at places n) [] (le-ltb n 0 (omega arith)))
 
 -- of the numbers below n, as many are below a bound as the lesser of the two
 below_bound : (bound n : ℕ) → length (keep (λ k. ltb k bound) (below n)) ≡ min n bound

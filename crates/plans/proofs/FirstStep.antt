@@ -1,7 +1,7 @@
 -- Item chains counted by their first step, from the top. Assumes nothing.
-use Rattle.std.proofs.Common.{◌≡◌, ℕ, zero, suc, ◌+◌, ◌*◌, ◌<◌, ◌≤◌, cond, eqb, List, [], ◌∷◌, length, sum_by, sym, refl, ap, ◌∙◌, ap₂, one-mul, mul-zero, zero-mul, arith}
+use Rattle.std.proofs.Common.{◌≡◌, ℕ, zero, suc, ◌+◌, ◌*◌, ◌<◌, ◌≤◌, cond, eqb, List, [], ◌∷◌, length, drop, sum_by, sym, refl, ap, ◌∙◌, ap₂, one-mul, mul-zero, zero-mul, arith}
 use Rattle.std.specs.List.{AllByRecursion}
-use Rattle.std.proofs.ByRecursion.{All-weaker}
+use Rattle.std.proofs.ByRecursion.{All-weaker, All-drop}
 use Rattle.std.proofs.lemmas.List.Sums.{sum_by-cons}
 use Rattle.std.proofs.lemmas.Bool.{eq-eqb, ne_eqb, cond-false}
 use Rattle.lists.specs.Lists.{sum_below}
@@ -56,3 +56,7 @@ none_ahead M lawful o x b k l =
     ap (λ z. length (item_chains M i o k) * z)
     (times_none b (M.containers i) (All-weaker (λ c. c < i) (λ c. c < b) (λ c v. omega arith) (M.containers i) (lawful.lower i)))
     ∙ mul-zero (length (item_chains M i o k)))
+
+-- nor among its own containers, or any of the last of them
+pub none_left : (M : Items) → Lawful M → (x n : ℕ) → times x (drop n (M.containers x)) ≡ 0
+none_left M lawful x n = times_none x (drop n (M.containers x)) (All-drop (λ c. c < x) n (M.containers x) (lawful.lower x))

@@ -1,7 +1,7 @@
 //! A reader over the text of an access list, which stays the caller's.
 
 ghost use Rattle.std.specs.Prelude.{◌≡◌, ◌+◌, ◌≤◌, length};
-ghost use Rattle.texts.specs.Lines.{last_bytes, lines_of};
+ghost use Rattle.texts.specs.Lines.{last_bytes};
 
 use texts::Lines;
 
@@ -12,7 +12,7 @@ pub struct Reader<'a> {
     pub(crate) lines: Lines<'a>,
     pub(crate) line: usize,
     ghost end: { lines.rest.now ≡ last_bytes (length lines.rest.now) text.now },
-    ghost within: { line + length (lines_of lines.rest.now) ≤ length text.now },
+    ghost behind: { line + length lines.rest.now ≤ length text.now },
 }
 
 impl Reader<'_> {

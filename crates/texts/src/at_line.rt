@@ -1,6 +1,7 @@
 //! What is wrong with a text, at the line where it is.
 
 ghost use Rattle.std.specs.Prelude.{◌≡◌};
+ghost use Rattle.texts.specs.Faults.{at_its_line};
 
 use std::fmt;
 
@@ -23,6 +24,8 @@ impl<F> From<(usize, F)> for AtLine<F> {
 }
 
 impl<F: fmt::Display> fmt::Display for AtLine<F> {
+    ghost output = { λ at. at_its_line at.line (F.output at.fault) };
+
     fn fmt<W: fmt::Write>(&self, f: &mut fmt::Formatter<W>) -> fmt::Result {
         let line = self.line;
         let fault = &self.fault;

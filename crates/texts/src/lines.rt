@@ -1,7 +1,7 @@
 //! The lines of a text, one after the other.
 
 ghost use Rattle.std.specs.Iterator.{item_count, MakesProgress, YieldsFirstRef};
-ghost use Rattle.std.specs.Prelude.{◌≡◌, ℕ, ◌<◌, ◌≤◌, length, ◌≢◌, slice_index, ⊤};
+ghost use Rattle.std.specs.Prelude.{◌≡◌, ℕ, ◌<◌, ◌≤◌, length, ◌≢◌, OnSome, slice_index, ⊤};
 ghost use Rattle.texts.specs.Laws.{LinesAgain};
 ghost use Rattle.texts.specs.Lines.{last_bytes, lines_of};
 
@@ -30,6 +30,14 @@ impl<'a> Lines<'a> {
     {
         Lines { rest: text }
     }
+
+    /// The bytes of the lines that are still to come.
+    pub fn remainder(&self) -> &'a [u8]
+        ensures { result.now ≡ self.now.rest.now }
+    {
+        let Lines { rest } = self;
+        rest
+    }
 }
 
 impl<'a> Iterator for Lines<'a> {
@@ -44,6 +52,7 @@ impl<'a> Iterator for Lines<'a> {
         ensures steps { YieldsFirstRef (λ s. lines_of s.rest.now) self.old result self.new }
         ensures goes { MakesProgress (λ _. ⊤) (item_count (λ s. lines_of s.rest.now)) self.old result self.new }
         ensures end { self.new.rest.now ≡ last_bytes (length self.new.rest.now) self.old.rest.now }
+        ensures shorter { OnSome result (length self.new.rest.now < length self.old.rest.now) }
     {
         let rest = self.rest;
         if rest.is_empty() {

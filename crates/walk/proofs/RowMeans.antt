@@ -66,7 +66,12 @@ later_times (suc k) (suc d) h x =
     whole : limited (count_at (times later k x) d) ≡ count_at (times later k x) d
     whole = omega (arith, (times later k x).small d (omega arith))
 
--- what arrives, as a sum over accounts and lengths
+-- what arrives, as sums over lengths and accounts, in either order
+pub arrived_by_length : (n : ℕ) (E : Members) (start : ℕ → ℕ → ℕ) (s many d : ℕ) →
+    arrived n E start s many d ≡ sum_below many (λ k. sum_below n (λ a. count n E a s k * cond (leb k d) (start a (d - k)) 0))
+unfolding arrived
+arrived_by_length n E start s many d = refl
+
 pub arrived_by_account : (n : ℕ) (E : Members) (start : ℕ → ℕ → ℕ) (s many d : ℕ) →
     arrived n E start s many d ≡ sum_below n (λ a. sum_below many (λ k. count n E a s k * cond (leb k d) (start a (d - k)) 0))
 unfolding arrived

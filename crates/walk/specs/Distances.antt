@@ -1,5 +1,5 @@
 -- The laws of distances. Assumes nothing.
-use Rattle.std.specs.Prelude.{◌≡◌, ℕ, ◌+◌, ◌<◌, ◌≤◌, min, Option, Some, None, refl}
+use Rattle.std.specs.Prelude.{◌≡◌, ℕ, ◌+◌, ◌<◌, ◌≤◌, min, Option, Some, None, IfSome, refl}
 use Rattle.std.proofs.Common.{ap, arith, ⊎_elim}
 use Rattle.std.proofs.lemmas.Bool.Decides.{nat_tests}
 use Rattle.std.proofs.lemmas.Bool.{lt-ltb, le-ltb, cases_lt}
@@ -17,6 +17,18 @@ comm None None = refl
 comm None (Some y) = refl
 comm (Some x) None = refl
 comm (Some x) (Some y) = let e : min x y ≡ min y x = omega arith in ap (λ n. Some n) e
+
+-- the number of a distance, or 255 for none
+abbrev pub number : Option ℕ → ℕ
+number None = 255
+number (Some d) = d
+
+-- distances up to 254 are told apart by their numbers, from each other and from none
+pub same_distance : (x y : Option ℕ) → IfSome x (λ d. d ≤ 254) → IfSome y (λ d. d ≤ 254) → number x ≡ number y → x ≡ y
+same_distance None None p q e = refl
+same_distance None (Some d) p q e = absurd (omega (arith, q, e))
+same_distance (Some d) None p q e = absurd (omega (arith, p, e))
+same_distance (Some c) (Some d) p q e = ap (λ n. Some n) e
 
 -- what a step gives
 pub step_on : (x : ℕ) → x < 254 → further (Some x) ≡ Some (x + 1)

@@ -2,6 +2,7 @@ pub mod Products
 pub mod Exchange
 pub mod Taking
 pub mod Filling
+pub mod Marks
 pub mod Lowest
 pub mod Lengths
 pub mod Found

@@ -8,7 +8,7 @@ use Rattle.book.specs.Books.{accounts_of, shown}
 use Rattle.saved.specs.Saved.{before}
 use Rattle.saved.proofs.Accepted.{join_accepted, on_err}
 use Rattle.saved.proofs.Before.{before_more, before_not, before_part}
-use Rattle.saved.proofs.Joined.{joined_ok}
+use Rattle.saved.proofs.Joined.{joined_members}
 use Rattle.saved.proofs.rejoining.rejoin_line.Goals.{then-shows+in_ok-join, else-shows}
 use Rattle.saved.proofs.rejoining.rejoin_line.Goals as goal
 
@@ -40,7 +40,7 @@ loop-member-preserved c =
     elim c.if-shows.branch [
       | then-shows+in_ok-join w ↦
           let stands : E g m ≡ true = sym c.shows.ensures ∙ w.if-shows.true in
-          let added = joined_ok (accounts_of c.loop-member.book) (shown c.loop-member.book) g m in
+          let added = joined_members (accounts_of c.loop-member.book) (shown c.loop-member.book) g m in
           record { joined = grind (arith, common_steps); same = grind (arith, common_steps) }
       | else-shows w ↦
           let none : E g m ≡ false = sym c.shows.ensures ∙ w.if-shows.false in

@@ -3,13 +3,13 @@ use Rattle.model.specs.declared.grant.Grant.{Grant}
 use Rattle.strategies.specs.declared.marks.Sign.TheVariants.{Plus}
 use Rattle.walked.specs.Starts.{lengths_in}
 use Rattle.walked.specs.Distances.{NearestStarts}
-use Rattle.walked.proofs.Lowest.{lowest_none, lowest_more, lowest_skip}
+use Rattle.walked.proofs.Lowest.{lowest_at_first, lowest_more, lowest_skip}
 use Rattle.walked.proofs.distances.nearest_starts.Goals as goal
 use Rattle.walked.proofs.distances.nearest_starts.Goals.{then-is_asked, else-is_asked}
 
 pub loop-grant-init : goal.loop-grant-init
 loop-grant-init c =
-    lowest_none c.args.grants.now (lengths_in c.args.above.now.counts) c.args.right c.args.sign
+    lowest_at_first c.args.grants.now (lengths_in c.args.above.now.counts) c.args.right c.args.sign
 
 pub loop-grant-preserved : goal.loop-grant-preserved
 loop-grant-preserved c =
