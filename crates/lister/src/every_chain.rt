@@ -34,7 +34,8 @@ fn walk<F: Fn(u32, usize) -> Option<u32>>(
     Ok(())
 }
 
-/// Every chain from `from` on, that of length 0 first; `onward` tells the numbers that are one step further on, by their places from 0 on.
+/// Every chain from `from` on, that of length 0 first. `onward` tells the numbers that are one step further on, by their places from 0 on: the first 64 of them, up to
+/// the first place that has none, are walked.
 pub fn chains_over<F: Fn(u32, usize) -> Option<u32>>(
     heap: Global,
     onward: F,

@@ -9,7 +9,7 @@ use plans::Plan;
 use std::alloc::AllocError;
 use strategies::marks::{Arrival, Mark, Sign};
 
-// Distances are 0 to 14: a number of the lister's own, to be compared with the book's.
+// Distances are 0 to 14: a number of the lister's own, and not the book's constant.
 const DISTANCES: usize = 15;
 
 impl Lister {
