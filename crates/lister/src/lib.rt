@@ -7,3 +7,5 @@ pub mod every_chain;
 pub mod lister;
 pub mod listing;
 pub mod refused;
+#[cfg(test)]
+mod tests;

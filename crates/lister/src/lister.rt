@@ -1,6 +1,9 @@
 //! The plain lister: who is a member of whom and which grants stand, kept as lists.
 
-use crate::every_chain::{Chain, LISTED, chains_over};
+ghost use Rattle.std.specs.Prelude.{IfOk};
+ghost use Rattle.lister.specs.Walks.{BeginsAt};
+
+use crate::every_chain::{Chain, LISTED, chains_by_place};
 use model::grant::Grant;
 use std::alloc::{AllocError, Global};
 
@@ -48,9 +51,11 @@ impl Lister {
     }
 
     /// Every chain from the account, that of length 0 first.
-    pub fn chains_from(&self, account: u32) -> Result<Vec<Chain>, AllocError> {
+    pub fn chains_from(&self, account: u32) -> Result<Vec<Chain>, AllocError>
+        ensures first { IfOk result (λ found. BeginsAt account found.items) }
+    {
         let onward = |at: u32, place: usize| self.members_of(at).get(place).copied();
-        chains_over(self.heap, onward, account)
+        chains_by_place(self.heap, onward, account)
     }
 
     // The members of the group, in the order joined; none of an account that is not known.
